@@ -8,14 +8,14 @@ use Rattle.gr_pubend.specs.Log.{log_of}
 use Rattle.gr_sched.specs.declared.step.Line.{Line}
 use Rattle.gr_model.specs.declared.report.Report.{Report}
 use Rattle.gr_model.specs.Net.{Net, numbers}
-use Rattle.gr_model.specs.Broker.{Log}
-use Rattle.gr_model.specs.World.{World, Transition}
-use Rattle.gr_model.specs.Opening.{begin_over}
-use Rattle.gr_model_calls.specs.OneNet.{Holds_from, served, arrived}
-use Rattle.gr_model.specs.Arrivals.{Arrival, publishes_of}
+use Rattle.gr_model.specs.Broker.{View, Log, seen}
+use Rattle.gr_model.specs.World.{World, Transition, run_all_by, run_from_by}
+use Rattle.gr_model.specs.Opening.{begin_over, opening_by}
+use Rattle.gr_model_calls.specs.OneNet.{Holds_from, served}
+use Rattle.gr_model.specs.Arrivals.{Arrival, publishes_of, served_by, arrived_by}
 use Rattle.gr_model_theorems.specs.Spelled.{LateIn, NumbersIn}
 use Rattle.gr_model_theorems.specs.Statements.{IsAskedRun, opened_over}
-use Rattle.gr_model_theorems.specs.OverLogs.{world_over, report_over}
+use Rattle.gr_model_theorems.specs.OverLogs.{report_over}
 use Rattle.gr_event.specs.declared.limits.TheConstants.{MAX_JOINS}
 use Rattle.gr_model_theorems.specs.Served.{IsOfBytes, IsHonestRun, HeadlineServed}
 
@@ -56,10 +56,14 @@ pub record DifferInCut (w u : World) : Type 0 where
   pub views : u.views ≡ w.views
   pub logs : map past_cut u.logs ≡ map past_cut w.logs
 
+-- all brokers start over these logs
+abbrev pub opened_by : (View → Net) → Net → List Log → Transition
+opened_by see net logs = opening_by see net (numbers net.brokers) logs
+
 -- the world after a journal that comes to all brokers over these logs
-abbrev pub served_on : Net → List Log → List Line → List Arrival → World
-served_on net logs steps arrivals =
-    arrived net (numbers net.brokers) (opened_over net logs).world
+abbrev pub served_on : (View → Net) → Net → List Log → List Line → List Arrival → World
+served_on see net logs steps arrivals =
+    arrived_by see net (numbers net.brokers) (opened_by see net logs).world
     (publishes_of net (numbers net.brokers) steps) arrivals
 
 -- a run over lanes, in which the late subscribers may have joined
@@ -91,13 +95,22 @@ HoldsServedLanes net lanes steps arrivals =
     HeadlineServed net (found_logs lanes) steps arrivals
     (served net (numbers net.brokers) (whole_logs lanes) steps arrivals)
 
--- Whatever comes, events that were cut change nothing: neither the lines, nor the worlds but for these events
-pub record CutEventsSilent (net : Net) (lanes : List (List Record)) : Type 0 where
+-- Whatever comes, and whatever net each call sees, events that were cut change nothing: neither the lines, nor the
+-- worlds but for these events
+pub record CutEventsSilent_by (see : View → Net) (net : Net) (lanes : List (List Record)) : Type 0 where
+  pub opened : (opened_by see net (whole_logs lanes)).lines ≡ (opened_by see net (found_logs lanes)).lines
   pub stepped : (steps : List Line) →
-      DifferInCut (world_over net (found_logs lanes) steps) (world_over net (whole_logs lanes) steps)
-  pub lines : (steps : List Line) → report_over net (whole_logs lanes) steps ≡ report_over net (found_logs lanes) steps
+      DifferInCut (run_all_by see net (opened_by see net (found_logs lanes)).world steps).world
+      (run_all_by see net (opened_by see net (whole_logs lanes)).world steps).world
+  pub lines : (steps : List Line) → run_from_by see net (opened_by see net (whole_logs lanes)).world steps
+      ≡ run_from_by see net (opened_by see net (found_logs lanes)).world steps
   pub served_same : (steps : List Line) (arrivals : List Arrival) →
-      served net (numbers net.brokers) (whole_logs lanes) steps arrivals
-      ≡ served net (numbers net.brokers) (found_logs lanes) steps arrivals
+      served_by see net (numbers net.brokers) (whole_logs lanes) steps arrivals
+      ≡ served_by see net (numbers net.brokers) (found_logs lanes) steps arrivals
   pub arrived_same : (steps : List Line) (arrivals : List Arrival) →
-      DifferInCut (served_on net (found_logs lanes) steps arrivals) (served_on net (whole_logs lanes) steps arrivals)
+      DifferInCut (served_on see net (found_logs lanes) steps arrivals)
+      (served_on see net (whole_logs lanes) steps arrivals)
+
+-- where each call sees the joins that its broker holds
+abbrev pub CutEventsSilent : Net → List (List Record) → Type 0
+CutEventsSilent net lanes = CutEventsSilent_by (seen net) net lanes

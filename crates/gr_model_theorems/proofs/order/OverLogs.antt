@@ -42,8 +42,8 @@ ordered_over net totals logs steps n z a i apart below =
 report_same : (net : Net) (late : List ℕ) (lanes : List (List Record)) (steps : List Line) → AllFollow late lanes → (let o : Transition = opened_over net (found_logs lanes) in opened_report net lanes steps ≡ o.lines ∷ run_from net o.world steps)
 report_same net late lanes steps a =
     let o : Transition = opened_over net (found_logs lanes) in
-    ap (λ (t : Transition). t.lines ∷ run_from net (opened_over net (whole_logs lanes)).world steps) (opened_same net late lanes a).is
-    ∙ ap (λ (rs : List (List Report)). o.lines ∷ rs) (lines_same net late lanes steps a)
+    ap (λ (t : Transition). t.lines ∷ run_from net (opened_over net (whole_logs lanes)).world steps) (opened_same (λ _. net) net late lanes a).is
+    ∙ ap (λ (rs : List (List Report)). o.lines ∷ rs) (lines_same (λ _. net) net late lanes steps a)
 
 pub ordered_lanes : (net : Net) (totals : List ℕ) (lanes : List (List Record)) (steps : List Line) → IsNet net → 1 ≤ net.quiet → length net.late ≤ MAX_JOINS → AllFollow net.late lanes → StepsIn net steps → IsDistinct totals → ((s : ℕ) → list_any (λ x. nat_eq x s) totals ≡ true → s < net.subscribers)
     → OrderedOverLanes net totals lanes steps

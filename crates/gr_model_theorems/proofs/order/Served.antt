@@ -110,7 +110,7 @@ pub ordered_served_lanes : (net : Net) (totals : List ℕ) (lanes : List (List R
     → AllByRecursion IsOfBytes arrivals → IsDistinct totals → ((s : ℕ) → list_any (λ x. nat_eq x s) totals ≡ true → s < net.subscribers) → IsHonestRun arrivals (served net (numbers net.brokers) (whole_logs lanes) steps arrivals)
     → OrderedServedLanes net totals lanes steps arrivals
 ordered_served_lanes net totals lanes steps arrivals n z on retry a i m fits apart below =
-    subst (λ (rs : List (List Report)). IsHonestRun arrivals rs → TotallyOrderedServed net totals (found_logs lanes) steps arrivals rs (told_in_order net totals rs)) (sym (served_lanes net net.late lanes steps arrivals a))
+    subst (λ (rs : List (List Report)). IsHonestRun arrivals rs → TotallyOrderedServed net totals (found_logs lanes) steps arrivals rs (told_in_order net totals rs)) (sym (served_lanes (λ _. net) net net.late lanes steps arrivals a))
     (λ honest. ordered_served net totals (found_logs lanes) steps arrivals n z on retry (are_found net lanes z.late.few a) i m fits apart below honest)
 
 -- ---- one order

@@ -20,9 +20,8 @@ use Rattle.gr_model.specs.declared.report.Report.{Report}
 use Rattle.gr_model.specs.declared.report.Report.TheVariants as line
 use Rattle.gr_pubend.specs.declared.answers.Joined.TheVariants as joins
 use Rattle.gr_model.specs.Net.{Net, is_host, keeps_horizon, not_empty, numbers}
-use Rattle.gr_model.specs.Broker.{joining, joining_by, joined_at, with_join, with_joins, drops, View, Log, Outcome, empty_log, event_at, log_at, log_know, with_event, with_mark, with_cut, silence, learn, receive, clashes, curiosity, expect, asking, place_of, published, quieted, publish, publish_by, marking, marking_by, cutting, wake, wake_host, wake_below, expect_frames, started, done_upto, consolidated, is_kept, max_tick}
+use Rattle.gr_model.specs.Broker.{taking, view_joined, joining, joining_by, joined_at, with_join, with_joins, drops, View, Log, Outcome, empty_log, event_at, log_at, log_know, with_event, with_mark, with_cut, silence, learn, receive, clashes, curiosity, expect, asking, place_of, published, quieted, publish, publish_by, marking, marking_by, cutting, wake, wake_host, wake_below, expect_frames, started, done_upto, consolidated, is_kept, max_tick}
 use Rattle.gr_model.specs.World.{join_now_by, World, Transition, view_of, log_of, absorbed, unchanged, followed_by, in_turn, frame_at, opened_lines, restarted, crash, greatest_settled, sweep_moment, is_want, is_know_to, inwards, outwards, frames_past, sent_since, kept_events, show, wake_for_by, wake_all_by, deliver_frame_by, publish_now_by, publish_stopped_by, deliver_up_by, wake_up_by, hand_down_by, sweep_for_by, sweep_by, next_by, run_from_by}
-use Rattle.gr_model_calls.specs.OneNet.{join_now, wake_for, wake_all, deliver_frame, publish_now, publish_stopped, sweep, sweep_for, deliver_up, wake_up, hand_down, next, run_from}
 use Rattle.gr_pubend.specs.declared.answers.Published.TheVariants.{Logged, Already, Gap, Exhausted}
 use Rattle.gr_pubend.specs.declared.answers.Quieted.TheVariants.{NotYet, Marked}
 use Rattle.gr_model_calls.proofs.calls.HostCases.{news_of}
@@ -321,69 +320,73 @@ same_in_turn f one [] w ls s = same_unchanged w ls [] s
 same_in_turn f one (x ∷ xs) w ls s = same_after (f w x) (f (with_logs w ls) x) (in_turn f xs) (in_turn f xs) (one x w ls s) (λ ms k. same_in_turn f one xs (f w x).world ms k)
 
 -- a wake, a delivery, a publish, and a wake for all publishers
-same_wake_for : (net : Net) (b p : ℕ) → Follows (λ w. wake_for net w b p)
+same_wake_for : (see : View → Net) (net : Net) (b p : ℕ) → Follows (λ w. wake_for_by see net w b p)
 unfolding wake_for_by
-same_wake_for net b p w ls s =
-    same_absorbed w ls b p (wake net p b w.clock (view_of w b p) (log_of w p)) (wake net p b w.clock (view_of w b p) (get_or ls p empty_log)) s
-    (same_wake net p b w.clock (view_of w b p) (log_of w p) (get_or ls p empty_log) (same_get w.logs ls p s))
+same_wake_for see net b p w ls s =
+    same_absorbed w ls b p (wake (see (view_of w b p)) p b w.clock (view_of w b p) (log_of w p)) (wake (see (view_of w b p)) p b w.clock (view_of w b p) (get_or ls p empty_log)) s
+    (same_wake (see (view_of w b p)) p b w.clock (view_of w b p) (log_of w p) (get_or ls p empty_log) (same_get w.logs ls p s))
 
 -- a delivery does the same over both
-pub same_deliver : (net : Net) (x : Frame) → Follows (λ w. deliver_frame net w x)
+pub same_deliver : (see : View → Net) (net : Net) (x : Frame) → Follows (λ w. deliver_frame_by see net w x)
 unfolding deliver_frame_by
-same_deliver net x w ls s =
+same_deliver see net x w ls s =
     let p = x.head.publisher in
-    same_absorbed w ls x.head.to p (receive net w.clock x (view_of w x.head.to p) (log_of w p)) (receive net w.clock x (view_of w x.head.to p) (get_or ls p empty_log)) s
-    (same_receive net w.clock x (view_of w x.head.to p) (log_of w p) (get_or ls p empty_log) (same_get w.logs ls p s))
+    same_absorbed w ls x.head.to p (receive (see (taking (view_of w x.head.to p) x)) w.clock x (view_of w x.head.to p) (log_of w p)) (receive (see (taking (view_of w x.head.to p) x)) w.clock x (view_of w x.head.to p) (get_or ls p empty_log)) s
+    (same_receive (see (taking (view_of w x.head.to p) x)) w.clock x (view_of w x.head.to p) (log_of w p) (get_or ls p empty_log) (same_get w.logs ls p s))
 
 -- a publish does the same over both
-pub same_publish_now : (net : Net) (p number : ℕ) (e : Event) → Follows (λ w. publish_now net w p number e)
+pub same_publish_now : (see : View → Net) (net : Net) (p number : ℕ) (e : Event) → Follows (λ w. publish_now_by see net w p number e)
 unfolding publish_now_by
-same_publish_now net p number e w ls s =
+same_publish_now see net p number e w ls s =
     let b = net.host p in
-    same_absorbed w ls b p (publish net p b w.clock number e (view_of w b p) (log_of w p)) (publish net p b w.clock number e (view_of w b p) (get_or ls p empty_log)) s
-    (same_publish net p b w.clock number e (view_of w b p) (log_of w p) (get_or ls p empty_log) (same_get w.logs ls p s))
+    same_absorbed w ls b p (publish (see (view_of w b p)) p b w.clock number e (view_of w b p) (log_of w p)) (publish (see (view_of w b p)) p b w.clock number e (view_of w b p) (get_or ls p empty_log)) s
+    (same_publish (see (view_of w b p)) p b w.clock number e (view_of w b p) (log_of w p) (get_or ls p empty_log) (same_get w.logs ls p s))
 
 -- so does a join
-pub same_join_now : (net : Net) (q p : ℕ) → Follows (λ w. join_now net w q p)
+pub same_join_now : (see : View → Net) (net : Net) (q p : ℕ) → Follows (λ w. join_now_by see net w q p)
 unfolding join_now_by
-same_join_now net q p w ls s =
+same_join_now see net q p w ls s =
     let b = net.host p in
-    same_absorbed w ls b p (joining net p b w.clock q (view_of w b p) (log_of w p)) (joining net p b w.clock q (view_of w b p) (get_or ls p empty_log)) s
-    (same_joining net p b w.clock q (view_of w b p) (log_of w p) (get_or ls p empty_log) (same_get w.logs ls p s))
+    let v : View = view_of w b p in
+    let at : Log → Net = λ l. see (view_joined l q w.clock v) in
+    let h = same_get w.logs ls p s in
+    same_absorbed w ls b p (joining (at (log_of w p)) p b w.clock q v (log_of w p)) (joining (at (get_or ls p empty_log)) p b w.clock q v (get_or ls p empty_log)) s
+    (subst (λ (g : Net). SameOut (joining (at (log_of w p)) p b w.clock q v (log_of w p)) (joining g p b w.clock q v (get_or ls p empty_log))) (sym (ap at h.is))
+    (same_joining (at (log_of w p)) p b w.clock q v (log_of w p) (get_or ls p empty_log) h))
 
 -- waking a broker for all publishers does the same over both
-pub same_wake_all : (net : Net) (b : ℕ) → Follows (λ w. wake_all net w b)
+pub same_wake_all : (see : View → Net) (net : Net) (b : ℕ) → Follows (λ w. wake_all_by see net w b)
 unfolding wake_all_by
-same_wake_all net b w ls s = same_in_turn (λ u p. wake_for net u b p) (λ p. same_wake_for net b p) (numbers net.publishers) w ls s
+same_wake_all see net b w ls s = same_in_turn (λ u p. wake_for_by see net u b p) (λ p. same_wake_for see net b p) (numbers net.publishers) w ls s
 
-same_deliver_up : (net : Net) (fuel : ℕ) (fs : List Frame) → Follows (deliver_up net fuel fs)
+same_deliver_up : (see : View → Net) (net : Net) (fuel : ℕ) (fs : List Frame) → Follows (deliver_up_by see net fuel fs)
 unfolding deliver_up_by
-same_deliver_up net zero fs w ls s = same_unchanged w ls [] s
-same_deliver_up net (suc fuel) fs w ls s =
-    same_in_turn (λ u x. followed_by (deliver_frame net u x) (λ y. deliver_up net fuel (filter is_want (sent_since u y)) y))
-    (λ x u ms k. let onward : World → Transition = λ y. deliver_up net fuel (filter is_want (sent_since u y)) y in
-    same_after (deliver_frame net u x) (deliver_frame net (with_logs u ms) x) onward onward (same_deliver net x u ms k)
-    (λ rs r. same_deliver_up net fuel (filter is_want (sent_since u (deliver_frame net u x).world)) (deliver_frame net u x).world rs r))
+same_deliver_up see net zero fs w ls s = same_unchanged w ls [] s
+same_deliver_up see net (suc fuel) fs w ls s =
+    same_in_turn (λ u x. followed_by (deliver_frame_by see net u x) (λ y. deliver_up_by see net fuel (filter is_want (sent_since u y)) y))
+    (λ x u ms k. let onward : World → Transition = λ y. deliver_up_by see net fuel (filter is_want (sent_since u y)) y in
+    same_after (deliver_frame_by see net u x) (deliver_frame_by see net (with_logs u ms) x) onward onward (same_deliver see net x u ms k)
+    (λ rs r. same_deliver_up see net fuel (filter is_want (sent_since u (deliver_frame_by see net u x).world)) (deliver_frame_by see net u x).world rs r))
     fs w ls s
 
-same_wake_up : (net : Net) (p b : ℕ) → Follows (λ w. wake_up net p w b)
+same_wake_up : (see : View → Net) (net : Net) (p b : ℕ) → Follows (λ w. wake_up_by see net p w b)
 unfolding wake_up_by
-same_wake_up net p b w ls s =
-    let onward : World → Transition = λ u. deliver_up net net.brokers (filter is_want (sent_since w u)) u in
-    same_after (wake_for net w b p) (wake_for net (with_logs w ls) b p) onward onward (same_wake_for net b p w ls s)
-    (λ rs r. same_deliver_up net net.brokers (filter is_want (sent_since w (wake_for net w b p).world)) (wake_for net w b p).world rs r)
+same_wake_up see net p b w ls s =
+    let onward : World → Transition = λ u. deliver_up_by see net net.brokers (filter is_want (sent_since w u)) u in
+    same_after (wake_for_by see net w b p) (wake_for_by see net (with_logs w ls) b p) onward onward (same_wake_for see net b p w ls s)
+    (λ rs r. same_deliver_up see net net.brokers (filter is_want (sent_since w (wake_for_by see net w b p).world)) (wake_for_by see net w b p).world rs r)
 
-same_hand_down : (net : Net) (p first b : ℕ) → Follows (λ w. hand_down net p first w b)
+same_hand_down : (see : View → Net) (net : Net) (p first b : ℕ) → Follows (λ w. hand_down_by see net p first w b)
 unfolding hand_down_by
-same_hand_down net p first b w ls s = same_in_turn (deliver_frame net) (λ x. same_deliver net x) (filter (is_know_to p b) (frames_past first w.frames)) w ls s
+same_hand_down see net p first b w ls s = same_in_turn (deliver_frame_by see net) (λ x. same_deliver see net x) (filter (is_know_to p b) (frames_past first w.frames)) w ls s
 
-same_sweep_for : (net : Net) (p : ℕ) → Follows (λ w. sweep_for net w p)
+same_sweep_for : (see : View → Net) (net : Net) (p : ℕ) → Follows (λ w. sweep_for_by see net w p)
 unfolding sweep_for_by
-same_sweep_for net p w ls s =
-    let wakes : World → Transition = in_turn (wake_up net p) (inwards net p) in
-    let downs : World → Transition = in_turn (hand_down net p (length w.frames)) (outwards net p) in
-    let wakes_on : Follows wakes = same_in_turn (wake_up net p) (λ b. same_wake_up net p b) (inwards net p) in
-    let downs_on : Follows downs = same_in_turn (hand_down net p (length w.frames)) (λ b. same_hand_down net p (length w.frames) b) (outwards net p) in
+same_sweep_for see net p w ls s =
+    let wakes : World → Transition = in_turn (wake_up_by see net p) (inwards net p) in
+    let downs : World → Transition = in_turn (hand_down_by see net p (length w.frames)) (outwards net p) in
+    let wakes_on : Follows wakes = same_in_turn (wake_up_by see net p) (λ b. same_wake_up see net p b) (inwards net p) in
+    let downs_on : Follows downs = same_in_turn (hand_down_by see net p (length w.frames)) (λ b. same_hand_down see net p (length w.frames) b) (outwards net p) in
     same_after (followed_by (wakes w) downs) (followed_by (wakes (with_logs w ls)) downs) wakes wakes
     (same_after (wakes w) (wakes (with_logs w ls)) downs downs (wakes_on w ls s) (λ rs r. downs_on (wakes w).world rs r))
     (λ rs r. wakes_on (followed_by (wakes w) downs).world rs r)
@@ -399,16 +402,16 @@ same_moment net w ls s = ap (λ (ns : List ℕ). max w.most (greatest_settled ns
     settled_same [] (m ∷ ms) s = absurd s
     settled_same (l ∷ ls) [] s = absurd s
 
-same_sweep : (net : Net) (k : ℕ) → Follows (λ w. sweep net w k)
+same_sweep : (see : View → Net) (net : Net) (k : ℕ) → Follows (λ w. sweep_by see net w k)
 unfolding sweep_by
-same_sweep net k w ls s =
+same_sweep see net k w ls s =
     subst (λ (m : ℕ). SameTold (told w (sweep_moment net w)) (told (with_logs w ls) m)) (sym (same_moment net w ls s)) (go (nat_lt max_tick (sweep_moment net w)))
   where
     moved : World → ℕ → World
     moved u m = record { clock = m; most = max m u.most; frames = u.frames; views = u.views; logs = u.logs }
 
     by_test : World → ℕ → Bool → Transition
-    by_test u m q = elim q [ true ↦ unchanged u (line.RefusedClock k m ∷ []) | false ↦ followed_by (in_turn (sweep_for net) (numbers net.publishers) (moved u m)) (λ x. unchanged x (line.Swept m ∷ [])) ]
+    by_test u m q = elim q [ true ↦ unchanged u (line.RefusedClock k m ∷ []) | false ↦ followed_by (in_turn (sweep_for_by see net) (numbers net.publishers) (moved u m)) (λ x. unchanged x (line.Swept m ∷ [])) ]
 
     told : World → ℕ → Transition
     told u m = by_test u m (nat_lt max_tick m)
@@ -417,9 +420,9 @@ same_sweep net k w ls s =
     go true = same_unchanged w ls (line.RefusedClock k (sweep_moment net w) ∷ []) s
     go false =
         let m = sweep_moment net w in
-        let swept : World → Transition = in_turn (sweep_for net) (numbers net.publishers) in
+        let swept : World → Transition = in_turn (sweep_for_by see net) (numbers net.publishers) in
         let last : World → Transition = λ x. unchanged x (line.Swept m ∷ []) in
-        same_after (swept (moved w m)) (swept (with_logs (moved w m) ls)) last last (same_in_turn (sweep_for net) (λ p. same_sweep_for net p) (numbers net.publishers) (moved w m) ls s) (λ rs r. same_unchanged (swept (moved w m)).world rs (line.Swept m ∷ []) r)
+        same_after (swept (moved w m)) (swept (with_logs (moved w m) ls)) last last (same_in_turn (sweep_for_by see net) (λ p. same_sweep_for see net p) (numbers net.publishers) (moved w m) ls s) (λ rs r. same_unchanged (swept (moved w m)).world rs (line.Swept m ∷ []) r)
 
 -- Starting again, and what is shown
 
@@ -478,9 +481,9 @@ same_show net w ls s = ap (λ (shown : List Report). line.Frames (length w.frame
 
 -- Steps
 
-same_stopped : (net : Net) (k p number : ℕ) (stop : Stop) (e : Event) → Follows (λ w. publish_stopped net w k p number stop e)
+same_stopped : (see : View → Net) (net : Net) (k p number : ℕ) (stop : Stop) (e : Event) → Follows (λ w. publish_stopped_by see net w k p number stop e)
 unfolding publish_stopped_by
-same_stopped net k p number stop e w ls s = by_log (get_or ls p empty_log) refl (same_get w.logs ls p s)
+same_stopped see net k p number stop e w ls s = by_log (get_or ls p empty_log) refl (same_get w.logs ls p s)
   where
     b : ℕ
     b = net.host p
@@ -501,11 +504,11 @@ same_stopped net k p number stop e w ls s = by_log (get_or ls p empty_log) refl 
     }
 
     told : World → Log → Bool → Bool → Bool → Transition
-    told u new here next kept = elim here [ true ↦ unchanged u (line.RefusedHosts k b ∷ []) | false ↦ elim next [ false ↦ publish_now net u p number e | true ↦ stopped u new kept ] ]
+    told u new here next kept = elim here [ true ↦ unchanged u (line.RefusedHosts k b ∷ []) | false ↦ elim next [ false ↦ publish_now_by see net u p number e | true ↦ stopped u new kept ] ]
 
     go : (m : Log) → SameLog log m → (here next kept : Bool) → SameTold (told w log here next kept) (told (with_logs w ls) m here next kept)
     go m h true next kept = same_unchanged w ls (line.RefusedHosts k b ∷ []) s
-    go m h false false kept = same_publish_now net p number e w ls s
+    go m h false false kept = same_publish_now see net p number e w ls s
     go m h false true true =
         same_restart net (with_logs w (set w.logs p (with_event log tick e))) (set ls p (with_event m tick e)) b (line.Crashed b ∷ (line.Kept p number tick ∷ [])) (same_set w.logs ls p (with_event log tick e) (with_event m tick e) s (same_longer log m tick e h))
     go m h false true false = same_restart net w ls b (line.Crashed b ∷ (line.Lost p number tick ∷ [])) s
@@ -514,7 +517,7 @@ same_stopped net k p number stop e w ls s = by_log (get_or ls p empty_log) refl 
     all m u = let at = max (suc m.settled) u.clock in elim (not_empty (net.subscribers_at b)) [
       | true ↦ unchanged u (line.RefusedHosts k b ∷ [])
       | false ↦ elim (nat_eq number (suc m.last) && nat_le at max_tick) [
-        | false ↦ publish_now net u p number e
+        | false ↦ publish_now_by see net u p number e
         | true ↦
             let kept = is_kept m.gate stop.call stop.pick in
             let logs = if kept then set u.logs p (with_event m at e) else u.logs in
@@ -531,26 +534,26 @@ same_stopped net k p number stop e w ls s = by_log (get_or ls p empty_log) refl 
         (go (with_events log h.events) (record { events = h.events; is = refl; past_same = h.past_same }) (not_empty (net.subscribers_at b)) (nat_eq number (suc log.last) && nat_le tick max_tick) (is_kept log.gate stop.call stop.pick))
 
 -- a step
-pub same_next : (net : Net) (l : Line) → Follows (λ w. next net w l)
+pub same_next : (see : View → Net) (net : Net) (l : Line) → Follows (λ w. next_by see net w l)
 unfolding next_by
-same_next net l w ls s = go l.step
+same_next see net l w ls s = go l.step
   where
     told : Step → World → Transition
     told z u = elim z [
       | step.Clock now ↦ unchanged (record { clock = now; most = max now u.most; frames = u.frames; views = u.views; logs = u.logs }) []
-      | step.Publish p number stop e ↦ elim stop [ None ↦ publish_now net u p number e | Some x ↦ publish_stopped net u l.number p number x e ]
-      | step.Wake b ↦ wake_all net u b
-      | step.Deliver k ↦ elim (frame_at u k) [ None ↦ unchanged u (line.RefusedFrame l.number k (length u.frames) ∷ []) | Some f ↦ deliver_frame net u f ]
+      | step.Publish p number stop e ↦ elim stop [ None ↦ publish_now_by see net u p number e | Some x ↦ publish_stopped_by see net u l.number p number x e ]
+      | step.Wake b ↦ wake_all_by see net u b
+      | step.Deliver k ↦ elim (frame_at u k) [ None ↦ unchanged u (line.RefusedFrame l.number k (length u.frames) ∷ []) | Some f ↦ deliver_frame_by see net u f ]
       | step.Crash b ↦ elim (not_empty (net.subscribers_at b)) [ true ↦ unchanged u (line.RefusedHosts l.number b ∷ []) | false ↦ crash net u b ]
-      | step.Sweep ↦ sweep net u l.number
+      | step.Sweep ↦ sweep_by see net u l.number
       | step.Show ↦ unchanged u (show net u)
       | step.Bytes k ↦ elim (frame_at u k) [ None ↦ unchanged u (line.RefusedFrame l.number k (length u.frames) ∷ []) | Some f ↦ unchanged u (line.BytesOf k (frame_bytes f) ∷ []) ]
-      | step.Join q p ↦ join_now net u q p
+      | step.Join q p ↦ join_now_by see net u q p
     ]
 
-    delivered : (k : ℕ) (o : Option Frame) → (let f : World → Transition = λ u. elim o [ None ↦ unchanged u (line.RefusedFrame l.number k (length u.frames) ∷ []) | Some x ↦ deliver_frame net u x ] in SameTold (f w) (f (with_logs w ls)))
+    delivered : (k : ℕ) (o : Option Frame) → (let f : World → Transition = λ u. elim o [ None ↦ unchanged u (line.RefusedFrame l.number k (length u.frames) ∷ []) | Some x ↦ deliver_frame_by see net u x ] in SameTold (f w) (f (with_logs w ls)))
     delivered k None = same_unchanged w ls (line.RefusedFrame l.number k (length w.frames) ∷ []) s
-    delivered k (Some x) = same_deliver net x w ls s
+    delivered k (Some x) = same_deliver see net x w ls s
 
     bytes_shown : (k : ℕ) (o : Option Frame) → (let f : World → Transition = λ u. elim o [ None ↦ unchanged u (line.RefusedFrame l.number k (length u.frames) ∷ []) | Some x ↦ unchanged u (line.BytesOf k (frame_bytes x) ∷ []) ] in SameTold (f w) (f (with_logs w ls)))
     bytes_shown k None = same_unchanged w ls (line.RefusedFrame l.number k (length w.frames) ∷ []) s
@@ -562,20 +565,20 @@ same_next net l w ls s = go l.step
 
     go : (z : Step) → SameTold (told z w) (told z (with_logs w ls))
     go (step.Clock now) = record { logs = ls; is = refl; same = s }
-    go (step.Publish p number None e) = same_publish_now net p number e w ls s
-    go (step.Publish p number (Some stop) e) = same_stopped net l.number p number stop e w ls s
-    go (step.Wake b) = same_wake_all net b w ls s
+    go (step.Publish p number None e) = same_publish_now see net p number e w ls s
+    go (step.Publish p number (Some stop) e) = same_stopped see net l.number p number stop e w ls s
+    go (step.Wake b) = same_wake_all see net b w ls s
     go (step.Deliver k) = delivered k (frame_at w k)
     go (step.Crash b) = crashed b (not_empty (net.subscribers_at b))
-    go step.Sweep = same_sweep net l.number w ls s
+    go step.Sweep = same_sweep see net l.number w ls s
     go step.Show = record { logs = ls; is = ap (unchanged (with_logs w ls)) (same_show net w ls s); same = s }
     go (step.Bytes k) = bytes_shown k (frame_at w k)
-    go (step.Join q p) = same_join_now net q p w ls s
+    go (step.Join q p) = same_join_now see net q p w ls s
 
 -- so the lines of all steps are the same
-pub same_run : (net : Net) (w : World) (ls : List Log) (steps : List Line) → SameLogs w.logs ls → run_from net (with_logs w ls) steps ≡ run_from net w steps
+pub same_run : (see : View → Net) (net : Net) (w : World) (ls : List Log) (steps : List Line) → SameLogs w.logs ls → run_from_by see net (with_logs w ls) steps ≡ run_from_by see net w steps
 unfolding run_from_by
-same_run net w ls [] s = refl
-same_run net w ls (l ∷ rest) s =
-    let k = same_next net l w ls s in
-    ap (λ (t : Transition). t.lines ∷ run_from net t.world rest) k.is ∙ ap (λ (rs : List (List Report)). (next net w l).lines ∷ rs) (same_run net (next net w l).world k.logs rest k.same)
+same_run see net w ls [] s = refl
+same_run see net w ls (l ∷ rest) s =
+    let k = same_next see net l w ls s in
+    ap (λ (t : Transition). t.lines ∷ run_from_by see net t.world rest) k.is ∙ ap (λ (rs : List (List Report)). (next_by see net w l).lines ∷ rs) (same_run see net (next_by see net w l).world k.logs rest k.same)

@@ -30,10 +30,10 @@ use Rattle.gr_model.specs.declared.report.Report.{Report}
 use Rattle.gr_model.specs.declared.report.Report.TheVariants as line
 use Rattle.gr_model.specs.Net.{Net, keeps_horizon, not_empty, numbers}
 use Rattle.gr_model.specs.Broker.{View, Log, empty_log, with_event, max_tick, learn, started}
-use Rattle.gr_model.specs.World.{World, Transition, view_of, log_of, unchanged, in_turn, absorbed, kept_events}
-use Rattle.gr_model_calls.specs.OneNet.{wake_all, deliver_frame, publish_now, next, run_all, run_from, opened_for, opening, Holds_from, takes, receives, notes, reads, published_first, quieted, comes, served_from, served, arrived}
+use Rattle.gr_model.specs.World.{World, Transition, view_of, log_of, unchanged, in_turn, absorbed, kept_events, wake_all_by, deliver_frame_by, publish_now_by, next_by, run_all_by, run_from_by}
+use Rattle.gr_model_calls.specs.OneNet.{run_from, served, Holds_from}
 use Rattle.gr_model.specs.Opening.{reopened_log, over_logs, reopened_line, publishers_at, begin_over, opened_for_by, opening_by}
-use Rattle.gr_model.specs.Arrivals.{joins_in, split_line, Arrival, datagram, quiet, Publish, publishes_of, left_after, at_moment, fits_broker, least_clash, clash_line, fault_number, publisher_of, submitted_in, is_hosted, show_hosted, takes_by, receives_by, notes_by, quieted_by, comes_by, served_from_by, arrived_by, served_by}
+use Rattle.gr_model.specs.Arrivals.{joins_in, split_line, Arrival, datagram, quiet, Publish, publishes_of, left_after, at_moment, fits_broker, least_clash, clash_line, fault_number, publisher_of, submitted_in, is_hosted, show_hosted, takes_by, receives_by, notes_by, quieted_by, comes_by, served_from_by, arrived_by, served_by, reads_by, published_first_by}
 use Rattle.gr_model.specs.Tree.{IsNet}
 use Rattle.gr_model_calls.specs.Said.{said_at, TicksRise}
 use Rattle.gr_model_calls.specs.Fits.{StepsIn}
@@ -41,7 +41,7 @@ use Rattle.gr_model_theorems.specs.Spelled.{NumbersIn}
 use Rattle.gr_model_theorems.specs.Found.{IsReopened, AreReopened}
 use Rattle.gr_model_theorems.specs.Served.{IsOfBytes, IsHonestRun, HeadlineServed}
 use Rattle.gr_model_theorems.specs.Statements.{opened_over}
-use Rattle.gr_model_theorems.specs.Lanes.{AllFollow, whole_logs, found_logs, past_cut, DifferInCut, HoldsOverLanes, HoldsServedLanes, CutEventsSilent}
+use Rattle.gr_model_theorems.specs.Lanes.{AllFollow, whole_logs, found_logs, past_cut, DifferInCut, HoldsOverLanes, HoldsServedLanes, CutEventsSilent_by}
 use Rattle.gr_model_theorems.proofs.limits.Spelled.{IsSmall}
 use Rattle.gr_model_theorems.proofs.records.Recorded.{get_map}
 use Rattle.gr_model_calls.proofs.runs.Closed.{with_logs}
@@ -166,16 +166,16 @@ lanes_same late lanes p a =
 
 -- The opening
 
-same_opened_for : (net : Net) (p : ℕ) → Follows (λ w. opened_for net w p)
+same_opened_for : (see : View → Net) (net : Net) (p : ℕ) → Follows (λ w. opened_for_by see net w p)
 unfolding opened_for_by
-same_opened_for net p w ls s =
+same_opened_for see net p w ls s =
     same_after (unchanged w (reopened_line (log_of w p) p)) (unchanged (with_logs w ls) (reopened_line (get_or ls p empty_log) p)) learned learned
     (let h = same_get w.logs ls p s in record { logs = ls; is = ap (λ (l : Log). unchanged (with_logs w ls) (reopened_line l p)) h.is; same = s })
     (λ ms r. go (not_empty (net.subscribers_at (net.host p))) ms r)
   where
     by_test : Bool → World → Transition
     by_test q u = elim q [
-      | true ↦ absorbed u (net.host p) p (learn net p (net.host p) [] (view_of u (net.host p) p) (log_of u p))
+      | true ↦ absorbed u (net.host p) p (learn (see (view_of u (net.host p) p)) p (net.host p) [] (view_of u (net.host p) p) (log_of u p))
       | false ↦ unchanged u []
     ]
 
@@ -184,8 +184,8 @@ same_opened_for net p w ls s =
 
     go : (q : Bool) (ms : List Log) → SameLogs w.logs ms → SameTold (by_test q w) (by_test q (with_logs w ms))
     go true ms r =
-        same_absorbed w ms (net.host p) p (learn net p (net.host p) [] (view_of w (net.host p) p) (log_of w p)) (learn net p (net.host p) [] (view_of w (net.host p) p) (get_or ms p empty_log)) r
-        (same_learn net p (net.host p) [] (view_of w (net.host p) p) (log_of w p) (get_or ms p empty_log) (same_get w.logs ms p r))
+        same_absorbed w ms (net.host p) p (learn (see (view_of w (net.host p) p)) p (net.host p) [] (view_of w (net.host p) p) (log_of w p)) (learn (see (view_of w (net.host p) p)) p (net.host p) [] (view_of w (net.host p) p) (get_or ms p empty_log)) r
+        (same_learn (see (view_of w (net.host p) p)) p (net.host p) [] (view_of w (net.host p) p) (log_of w p) (get_or ms p empty_log) (same_get w.logs ms p r))
     go false ms r = same_unchanged w ms [] r
 
 -- brokers that have just started know the same
@@ -209,69 +209,69 @@ over_same : (net : Net) (ls ms : List Log) → ((p : ℕ) → SameLog (reopened_
 unfolding over_logs
 over_same net ls ms h = all_same (reopened_log ls) (reopened_log ms) (numbers net.publishers) h
 
-same_opening : (net : Net) (hosted : List ℕ) (ls ms : List Log) → ((p : ℕ) → SameLog (reopened_log ls p) (reopened_log ms p)) → SameTold (opening net hosted ls) (opening net hosted ms)
+same_opening : (see : View → Net) (net : Net) (hosted : List ℕ) (ls ms : List Log) → ((p : ℕ) → SameLog (reopened_log ls p) (reopened_log ms p)) → SameTold (opening_by see net hosted ls) (opening_by see net hosted ms)
 unfolding opening_by
-same_opening net hosted ls ms h =
-    subst (λ (u : World). SameTold (in_turn (opened_for net) (publishers_at net hosted) (over_logs net ls)) (in_turn (opened_for net) (publishers_at net hosted) u)) (sym (same_over net ls ms h))
-    (same_in_turn (opened_for net) (λ p. same_opened_for net p) (publishers_at net hosted) (over_logs net ls) (map (reopened_log ms) (numbers net.publishers)) (over_same net ls ms h))
+same_opening see net hosted ls ms h =
+    subst (λ (u : World). SameTold (in_turn (opened_for_by see net) (publishers_at net hosted) (over_logs net ls)) (in_turn (opened_for_by see net) (publishers_at net hosted) u)) (sym (same_over net ls ms h))
+    (same_in_turn (opened_for_by see net) (λ p. same_opened_for see net p) (publishers_at net hosted) (over_logs net ls) (map (reopened_log ms) (numbers net.publishers)) (over_same net ls ms h))
 
 -- Arrivals
 
-same_takes : (net : Net) (b : ℕ) (f : Frame) → Follows (λ w. takes net w b f)
+same_takes : (see : View → Net) (net : Net) (b : ℕ) (f : Frame) → Follows (λ w. takes_by see net w b f)
 unfolding takes_by
-same_takes net b f w ls s = split_at (first_split 0 (view_of w b f.head.publisher).joins (joins_in f))
+same_takes see net b f w ls s = split_at (first_split 0 (view_of w b f.head.publisher).joins (joins_in f))
   where
-    go : (o : Option ℕ) → (let t : World → Transition = λ u. elim o [ Some t ↦ unchanged u (clash_line b (view_of w b f.head.publisher).know f t ∷ []) | None ↦ deliver_frame net u f ] in SameTold (t w) (t (with_logs w ls)))
-    go None = same_deliver net f w ls s
+    go : (o : Option ℕ) → (let t : World → Transition = λ u. elim o [ Some t ↦ unchanged u (clash_line b (view_of w b f.head.publisher).know f t ∷ []) | None ↦ deliver_frame_by see net u f ] in SameTold (t w) (t (with_logs w ls)))
+    go None = same_deliver see net f w ls s
     go (Some t) = same_unchanged w ls (clash_line b (view_of w b f.head.publisher).know f t ∷ []) s
 
     split_at : (o : Option Split) → (let t : World → Transition = λ u. elim o [
       | Some x ↦ unchanged u (split_line b x ∷ [])
-      | None ↦ elim (least_clash (view_of w b f.head.publisher).know f) [ Some t ↦ unchanged u (clash_line b (view_of w b f.head.publisher).know f t ∷ []) | None ↦ deliver_frame net u f ]
+      | None ↦ elim (least_clash (view_of w b f.head.publisher).know f) [ Some t ↦ unchanged u (clash_line b (view_of w b f.head.publisher).know f t ∷ []) | None ↦ deliver_frame_by see net u f ]
     ] in SameTold (t w) (t (with_logs w ls)))
     split_at (Some x) = same_unchanged w ls (split_line b x ∷ []) s
     split_at None = go (least_clash (view_of w b f.head.publisher).know f)
 
-same_receives : (net : Net) (b : ℕ) (r : Result Frame FrameFault) → Follows (λ w. receives net w b r)
+same_receives : (see : View → Net) (net : Net) (b : ℕ) (r : Result Frame FrameFault) → Follows (λ w. receives_by see net w b r)
 unfolding receives_by
-same_receives net b (Err fault) w ls s = same_unchanged w ls (line.DroppedNotFrame b (fault_number fault.kind) fault.at ∷ []) s
-same_receives net b (Ok f) w ls s = go (fits_broker net b f)
+same_receives see net b (Err fault) w ls s = same_unchanged w ls (line.DroppedNotFrame b (fault_number fault.kind) fault.at ∷ []) s
+same_receives see net b (Ok f) w ls s = go (fits_broker net b f)
   where
-    go : (q : Bool) → (let t : World → Transition = λ u. elim q [ false ↦ unchanged u (line.DroppedStray b f.head.from f.head.to f.head.publisher ∷ []) | true ↦ takes net u b f ] in SameTold (t w) (t (with_logs w ls)))
-    go true = same_takes net b f w ls s
+    go : (q : Bool) → (let t : World → Transition = λ u. elim q [ false ↦ unchanged u (line.DroppedStray b f.head.from f.head.to f.head.publisher ∷ []) | true ↦ takes_by see net u b f ] in SameTold (t w) (t (with_logs w ls)))
+    go true = same_takes see net b f w ls s
     go false = same_unchanged w ls (line.DroppedStray b f.head.from f.head.to f.head.publisher ∷ []) s
 
-same_first : (net : Net) (left : List Publish) → Follows (λ w. published_first net w left)
-same_first net [] w ls s = same_unchanged w ls [] s
-same_first net (x ∷ left) w ls s = same_publish_now net x.0 x.1.0 x.1.1 w ls s
+same_first : (see : View → Net) (net : Net) (left : List Publish) → Follows (λ w. published_first_by see net w left)
+same_first see net [] w ls s = same_unchanged w ls [] s
+same_first see net (x ∷ left) w ls s = same_publish_now see net x.0 x.1.0 x.1.1 w ls s
 
-same_quieted : (net : Net) (hosted : List ℕ) (left : List Publish) → Follows (λ w. quieted net hosted w left)
+same_quieted : (see : View → Net) (net : Net) (hosted : List ℕ) (left : List Publish) → Follows (λ w. quieted_by see net hosted w left)
 unfolding quieted_by
-same_quieted net hosted left w ls s =
-    let wakes : World → Transition = in_turn (wake_all net) hosted in
-    same_after (published_first net w left) (published_first net (with_logs w ls) left) wakes wakes (same_first net left w ls s)
-    (λ ms r. same_in_turn (wake_all net) (λ b. same_wake_all net b) hosted (published_first net w left).world ms r)
+same_quieted see net hosted left w ls s =
+    let wakes : World → Transition = in_turn (wake_all_by see net) hosted in
+    same_after (published_first_by see net w left) (published_first_by see net (with_logs w ls) left) wakes wakes (same_first see net left w ls s)
+    (λ ms r. same_in_turn (wake_all_by see net) (λ b. same_wake_all see net b) hosted (published_first_by see net w left).world ms r)
 
-same_notes : (net : Net) (b : ℕ) (r : Result Note NoteFault) → Follows (λ w. notes net w b r)
+same_notes : (see : View → Net) (net : Net) (b : ℕ) (r : Result Note NoteFault) → Follows (λ w. notes_by see net w b r)
 unfolding notes_by
-same_notes net b (Err fault) w ls s = same_unchanged w ls (line.DroppedBadNote b (note.fault_number fault.kind) fault.at ∷ []) s
-same_notes net b (Ok n) w ls s = go (submitted_in net b n)
+same_notes see net b (Err fault) w ls s = same_unchanged w ls (line.DroppedBadNote b (note.fault_number fault.kind) fault.at ∷ []) s
+same_notes see net b (Ok n) w ls s = go (submitted_in net b n)
   where
-    go : (o : Option Publish) → (let t : World → Transition = λ u. elim o [ Some x ↦ publish_now net u x.0 x.1.0 x.1.1 | None ↦ unchanged u (line.DroppedStrayNote b (publisher_of n) ∷ []) ] in SameTold (t w) (t (with_logs w ls)))
-    go (Some x) = same_publish_now net x.0 x.1.0 x.1.1 w ls s
+    go : (o : Option Publish) → (let t : World → Transition = λ u. elim o [ Some x ↦ publish_now_by see net u x.0 x.1.0 x.1.1 | None ↦ unchanged u (line.DroppedStrayNote b (publisher_of n) ∷ []) ] in SameTold (t w) (t (with_logs w ls)))
+    go (Some x) = same_publish_now see net x.0 x.1.0 x.1.1 w ls s
     go None = same_unchanged w ls (line.DroppedStrayNote b (publisher_of n) ∷ []) s
 
-same_reads : (net : Net) (b : ℕ) (bytes : List ℕ) → Follows (λ w. reads net w b bytes)
-same_reads net b bytes w ls s = go (begins_note bytes)
+same_reads : (see : View → Net) (net : Net) (b : ℕ) (bytes : List ℕ) → Follows (λ w. reads_by see net w b bytes)
+same_reads see net b bytes w ls s = go (begins_note bytes)
   where
-    go : (c : Bool) → (let t : World → Transition = λ u. elim c [ true ↦ notes net u b (note_decoded bytes) | false ↦ receives net u b (frame_decoded bytes) ] in SameTold (t w) (t (with_logs w ls)))
-    go true = same_notes net b (note_decoded bytes) w ls s
-    go false = same_receives net b (frame_decoded bytes) w ls s
+    go : (c : Bool) → (let t : World → Transition = λ u. elim c [ true ↦ notes_by see net u b (note_decoded bytes) | false ↦ receives_by see net u b (frame_decoded bytes) ] in SameTold (t w) (t (with_logs w ls)))
+    go true = same_notes see net b (note_decoded bytes) w ls s
+    go false = same_receives see net b (frame_decoded bytes) w ls s
 
-same_comes : (net : Net) (hosted : List ℕ) (left : List Publish) (a : Arrival) → Follows (λ w. comes net hosted w left a)
+same_comes : (see : View → Net) (net : Net) (hosted : List ℕ) (left : List Publish) (a : Arrival) → Follows (λ w. comes_by see net hosted w left a)
 unfolding comes_by
-same_comes net hosted left (datagram b bytes moment) w ls s = same_reads net b bytes (at_moment w moment) ls s
-same_comes net hosted left (quiet moment) w ls s = same_quieted net hosted left (at_moment w moment) ls s
+same_comes see net hosted left (datagram b bytes moment) w ls s = same_reads see net b bytes (at_moment w moment) ls s
+same_comes see net hosted left (quiet moment) w ls s = same_quieted see net hosted left (at_moment w moment) ls s
 
 same_show_hosted : (net : Net) (hosted : List ℕ) (w : World) (ls : List Log) → SameLogs w.logs ls → show_hosted net hosted (with_logs w ls) ≡ show_hosted net hosted w
 unfolding show_hosted
@@ -290,13 +290,13 @@ same_show_hosted net hosted w ls s = ap (λ (shown : List Report). line.Frames (
     go [] = refl
     go (p ∷ ps) = ap₂ (λ (x y : List Report). x ++ y) (one p (get_or w.logs p empty_log) (get_or ls p empty_log) (same_get w.logs ls p s)) (go ps)
 
-same_served_from : (net : Net) (hosted : List ℕ) (left : List Publish) (arrivals : List Arrival) (w : World) (ls : List Log) → SameLogs w.logs ls → served_from net hosted (with_logs w ls) left arrivals ≡ served_from net hosted w left arrivals
+same_served_from : (see : View → Net) (net : Net) (hosted : List ℕ) (left : List Publish) (arrivals : List Arrival) (w : World) (ls : List Log) → SameLogs w.logs ls → served_from_by see net hosted (with_logs w ls) left arrivals ≡ served_from_by see net hosted w left arrivals
 unfolding served_from_by
-same_served_from net hosted left [] w ls s = ap (λ (r : List Report). r ∷ []) (same_show_hosted net hosted w ls s)
-same_served_from net hosted left (a ∷ arrivals) w ls s =
-    let k = same_comes net hosted left a w ls s in
-    let t : Transition = comes net hosted w left a in
-    ap (λ (u : Transition). u.lines ∷ served_from net hosted u.world (left_after left a) arrivals) k.is ∙ ap (λ (rs : List (List Report)). t.lines ∷ rs) (same_served_from net hosted (left_after left a) arrivals t.world k.logs k.same)
+same_served_from see net hosted left [] w ls s = ap (λ (r : List Report). r ∷ []) (same_show_hosted net hosted w ls s)
+same_served_from see net hosted left (a ∷ arrivals) w ls s =
+    let k = same_comes see net hosted left a w ls s in
+    let t : Transition = comes_by see net hosted w left a in
+    ap (λ (u : Transition). u.lines ∷ served_from_by see net hosted u.world (left_after left a) arrivals) k.is ∙ ap (λ (rs : List (List Report)). t.lines ∷ rs) (same_served_from see net hosted (left_after left a) arrivals t.world k.logs k.same)
 
 -- Worlds
 
@@ -316,65 +316,66 @@ same_past (l ∷ ls) [] s = absurd s
 differ : (w : World) (ls : List Log) → SameLogs w.logs ls → DifferInCut w (with_logs w ls)
 differ w ls s = record { clock = refl; most = refl; frames = refl; views = refl; logs = same_past w.logs ls s }
 
-same_stepped : (net : Net) (steps : List Line) (w : World) (ls : List Log) → SameLogs w.logs ls → DifferInCut (run_all net w steps).world (run_all net (with_logs w ls) steps).world
-same_stepped net [] w ls s = differ w ls s
-same_stepped net (l ∷ steps) w ls s =
-    let k = same_next net l w ls s in
-    subst (λ (t : Transition). DifferInCut (run_all net (next net w l).world steps).world (run_all net t.world steps).world) (sym k.is) (same_stepped net steps (next net w l).world k.logs k.same)
+same_stepped : (see : View → Net) (net : Net) (steps : List Line) (w : World) (ls : List Log) → SameLogs w.logs ls → DifferInCut (run_all_by see net w steps).world (run_all_by see net (with_logs w ls) steps).world
+same_stepped see net [] w ls s = differ w ls s
+same_stepped see net (l ∷ steps) w ls s =
+    let k = same_next see net l w ls s in
+    subst (λ (t : Transition). DifferInCut (run_all_by see net (next_by see net w l).world steps).world (run_all_by see net t.world steps).world) (sym k.is) (same_stepped see net steps (next_by see net w l).world k.logs k.same)
 
-same_arrived : (net : Net) (hosted : List ℕ) (left : List Publish) (arrivals : List Arrival) (w : World) (ls : List Log) → SameLogs w.logs ls → DifferInCut (arrived net hosted w left arrivals) (arrived net hosted (with_logs w ls) left arrivals)
+same_arrived : (see : View → Net) (net : Net) (hosted : List ℕ) (left : List Publish) (arrivals : List Arrival) (w : World) (ls : List Log) → SameLogs w.logs ls → DifferInCut (arrived_by see net hosted w left arrivals) (arrived_by see net hosted (with_logs w ls) left arrivals)
 unfolding arrived_by
-same_arrived net hosted left [] w ls s = differ w ls s
-same_arrived net hosted left (a ∷ arrivals) w ls s =
-    let k = same_comes net hosted left a w ls s in
-    let t : Transition = comes net hosted w left a in
-    subst (λ (u : Transition). DifferInCut (arrived net hosted t.world (left_after left a) arrivals) (arrived net hosted u.world (left_after left a) arrivals)) (sym k.is) (same_arrived net hosted (left_after left a) arrivals t.world k.logs k.same)
+same_arrived see net hosted left [] w ls s = differ w ls s
+same_arrived see net hosted left (a ∷ arrivals) w ls s =
+    let k = same_comes see net hosted left a w ls s in
+    let t : Transition = comes_by see net hosted w left a in
+    subst (λ (u : Transition). DifferInCut (arrived_by see net hosted t.world (left_after left a) arrivals) (arrived_by see net hosted u.world (left_after left a) arrivals)) (sym k.is) (same_arrived see net hosted (left_after left a) arrivals t.world k.logs k.same)
 
 -- Lanes
 
-pub opened_same : (net : Net) (late : List ℕ) (lanes : List (List Record)) → AllFollow late lanes → SameTold (opened_over net (found_logs lanes)) (opened_over net (whole_logs lanes))
-opened_same net late lanes a = same_opening net (numbers net.brokers) (found_logs lanes) (whole_logs lanes) (λ p. lanes_same late lanes p a)
+pub opened_same : (see : View → Net) (net : Net) (late : List ℕ) (lanes : List (List Record)) → AllFollow late lanes → SameTold (opening_by see net (numbers net.brokers) (found_logs lanes)) (opening_by see net (numbers net.brokers) (whole_logs lanes))
+opened_same see net late lanes a = same_opening see net (numbers net.brokers) (found_logs lanes) (whole_logs lanes) (λ p. lanes_same late lanes p a)
 
-pub lines_same : (net : Net) (late : List ℕ) (lanes : List (List Record)) (steps : List Line) → AllFollow late lanes → run_from net (opened_over net (whole_logs lanes)).world steps ≡ run_from net (opened_over net (found_logs lanes)).world steps
-lines_same net late lanes steps a =
-    let k = opened_same net late lanes a in
-    ap (λ (t : Transition). run_from net t.world steps) k.is ∙ same_run net (opened_over net (found_logs lanes)).world k.logs steps k.same
+pub lines_same : (see : View → Net) (net : Net) (late : List ℕ) (lanes : List (List Record)) (steps : List Line) → AllFollow late lanes → run_from_by see net (opening_by see net (numbers net.brokers) (whole_logs lanes)).world steps ≡ run_from_by see net (opening_by see net (numbers net.brokers) (found_logs lanes)).world steps
+lines_same see net late lanes steps a =
+    let k = opened_same see net late lanes a in
+    ap (λ (t : Transition). run_from_by see net t.world steps) k.is ∙ same_run see net (opening_by see net (numbers net.brokers) (found_logs lanes)).world k.logs steps k.same
 
-pub served_lanes : (net : Net) (late : List ℕ) (lanes : List (List Record)) (steps : List Line) (arrivals : List Arrival) → AllFollow late lanes → served net (numbers net.brokers) (whole_logs lanes) steps arrivals ≡ served net (numbers net.brokers) (found_logs lanes) steps arrivals
+pub served_lanes : (see : View → Net) (net : Net) (late : List ℕ) (lanes : List (List Record)) (steps : List Line) (arrivals : List Arrival) → AllFollow late lanes → served_by see net (numbers net.brokers) (whole_logs lanes) steps arrivals ≡ served_by see net (numbers net.brokers) (found_logs lanes) steps arrivals
 unfolding served_by
-served_lanes net late lanes steps arrivals a =
-    let k = opened_same net late lanes a in
+served_lanes see net late lanes steps arrivals a =
+    let k = opened_same see net late lanes a in
     let all : List ℕ = numbers net.brokers in
-    let o : Transition = opened_over net (found_logs lanes) in
-    ap (λ (t : Transition). t.lines ∷ served_from net all t.world (publishes_of net all steps) arrivals) k.is
-    ∙ ap (λ (rs : List (List Report)). o.lines ∷ rs) (same_served_from net all (publishes_of net all steps) arrivals o.world k.logs k.same)
+    let o : Transition = opening_by see net (numbers net.brokers) (found_logs lanes) in
+    ap (λ (t : Transition). t.lines ∷ served_from_by see net all t.world (publishes_of net all steps) arrivals) k.is
+    ∙ ap (λ (rs : List (List Report)). o.lines ∷ rs) (same_served_from see net all (publishes_of net all steps) arrivals o.world k.logs k.same)
 
 -- a run over reopened logs is the same whether the events that were cut are kept or not
-pub cut_events_silent : (net : Net) (late : List ℕ) (lanes : List (List Record)) → AllFollow late lanes → CutEventsSilent net lanes
-cut_events_silent net late lanes a =
-    let k = opened_same net late lanes a in
-    let o : Transition = opened_over net (found_logs lanes) in
+pub cut_events_silent : (see : View → Net) (net : Net) (late : List ℕ) (lanes : List (List Record)) → AllFollow late lanes → CutEventsSilent_by see net lanes
+cut_events_silent see net late lanes a =
+    let k = opened_same see net late lanes a in
+    let all : List ℕ = numbers net.brokers in
+    let o : Transition = opening_by see net all (found_logs lanes) in
     record {
-      stepped = λ steps. subst (λ (t : Transition). DifferInCut (run_all net o.world steps).world (run_all net t.world steps).world) (sym k.is) (same_stepped net steps o.world k.logs k.same);
-      lines = λ steps. lines_same net late lanes steps a;
-      served_same = λ steps arrivals. served_lanes net late lanes steps arrivals a;
+      opened = ap (λ (t : Transition). t.lines) k.is;
+      stepped = λ steps. subst (λ (t : Transition). DifferInCut (run_all_by see net o.world steps).world (run_all_by see net t.world steps).world) (sym k.is) (same_stepped see net steps o.world k.logs k.same);
+      lines = λ steps. lines_same see net late lanes steps a;
+      served_same = λ steps arrivals. served_lanes see net late lanes steps arrivals a;
       arrived_same = λ steps arrivals.
-          let all : List ℕ = numbers net.brokers in
           let left : List Publish = publishes_of net all steps in
-          subst (λ (t : Transition). DifferInCut (arrived net all o.world left arrivals) (arrived net all t.world left arrivals)) (sym k.is) (same_arrived net all left arrivals o.world k.logs k.same);
+          subst (λ (t : Transition). DifferInCut (arrived_by see net all o.world left arrivals) (arrived_by see net all t.world left arrivals)) (sym k.is) (same_arrived see net all left arrivals o.world k.logs k.same);
     }
 
 -- the headline holds of every schedule over logs that are read from records in order
 pub holds_over_lanes : (net : Net) (lanes : List (List Record)) (steps : List Line) → IsNet net → 1 ≤ net.quiet → 1 ≤ net.retry → length net.late ≤ MAX_JOINS → AllFollow net.late lanes → StepsIn net steps → HoldsOverLanes net lanes steps
 holds_over_lanes net lanes steps n z r few a i =
-    let k = opened_same net net.late lanes a in
+    let k = opened_same (λ _. net) net net.late lanes a in
     let founds = found_logs lanes in
     subst (λ (ls : List Report). Holds_from net (begin_over net founds ls) steps (run_from net (opened_over net (whole_logs lanes)).world steps)) (sym (ap (λ (t : Transition). t.lines) k.is))
-    (subst (λ (rs : List (List Report)). Holds_from net (begin_over net founds (opened_over net founds).lines) steps rs) (sym (lines_same net net.late lanes steps a)) (headline_over_logs net founds steps n z r (are_found net lanes few a) i))
+    (subst (λ (rs : List (List Report)). Holds_from net (begin_over net founds (opened_over net founds).lines) steps rs) (sym (lines_same (λ _. net) net net.late lanes steps a)) (headline_over_logs net founds steps n z r (are_found net lanes few a) i))
 
 -- the headline holds of every honest run of a server over logs that are read from records in order
 pub holds_served_lanes : (net : Net) (lanes : List (List Record)) (steps : List Line) (arrivals : List Arrival) → IsNet net → IsSmall net → 1 ≤ net.quiet → 1 ≤ net.retry → AllFollow net.late lanes → StepsIn net steps → NumbersIn steps → AllByRecursion IsOfBytes arrivals →
     IsHonestRun arrivals (served net (numbers net.brokers) (whole_logs lanes) steps arrivals) → HoldsServedLanes net lanes steps arrivals
 holds_served_lanes net lanes steps arrivals n small z r a i m fits =
-    subst (λ (rs : List (List Report)). IsHonestRun arrivals rs → HeadlineServed net (found_logs lanes) steps arrivals rs) (sym (served_lanes net net.late lanes steps arrivals a))
+    subst (λ (rs : List (List Report)). IsHonestRun arrivals rs → HeadlineServed net (found_logs lanes) steps arrivals rs) (sym (served_lanes (λ _. net) net net.late lanes steps arrivals a))
     (λ honest. headline_served net (found_logs lanes) steps arrivals n small z r (are_found net lanes small.late.few a) i m fits honest)

@@ -1,3 +1,4 @@
+use Rattle.gr_model.specs.Broker.{seen}
 use Rattle.gr_model_theorems.proofs.server.Lanes.{are_found, found_is_past, cut_events_silent, holds_over_lanes, holds_served_lanes}
 use Rattle.gr_model_theorems.proofs.theorems.headline_over_lanes.Goals as goal
 
@@ -16,4 +17,4 @@ pub returns-clause-past : goal.returns-clause-past
 returns-clause-past c = λ late rs f. found_is_past late rs f
 
 pub returns-clause-silent : goal.returns-clause-silent
-returns-clause-silent c = λ net late lanes a. cut_events_silent net late lanes a
+returns-clause-silent c = λ net late lanes a. cut_events_silent (seen net) net late lanes a
