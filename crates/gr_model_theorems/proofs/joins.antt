@@ -2,3 +2,5 @@
 pub mod Owing
 pub mod AsOne
 pub mod Always
+pub mod Over
+pub mod Serving

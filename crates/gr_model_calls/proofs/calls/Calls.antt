@@ -305,7 +305,7 @@ logged_first net p b v u log new reached o ls host more same same_cut grows late
     }
 
 -- the events of a log are up to what is settled
-rise_upto : (from m : ℕ) (xs : List (ℕ × Event)) → TicksRise from xs → ((t : ℕ) → m < t → said_at xs t ≡ None) → TicksUpto m xs
+pub rise_upto : (from m : ℕ) (xs : List (ℕ × Event)) → TicksRise from xs → ((t : ℕ) → m < t → said_at xs t ≡ None) → TicksUpto m xs
 rise_upto from m [] r h = tt
 rise_upto from m (x ∷ xs) r h = (first, rise_upto x.0 m xs r.1 (λ t k. sym (said_at-past x xs t (λ e. omega (arith, e, first))) ∙ h t k))
   where

@@ -33,17 +33,17 @@ after_same s u f g e h =
     let onward : Transition → Transition = λ r. record { world = r.world; lines = u.lines ++ r.lines } in
     ap (λ (z : Transition). followed_by z f) e ∙ ap onward h
 
-Runs-after : (B : World → Type 0) (s u : Transition) (f g : World → Transition) → Back B f → Back B g → Runs B s u → Runs B (f u.world) (g u.world) → Runs B (followed_by s f) (followed_by u g)
+pub Runs-after : (B : World → Type 0) (s u : Transition) (f g : World → Transition) → Back B f → Back B g → Runs B s u → Runs B (f u.world) (g u.world) → Runs B (followed_by s f) (followed_by u g)
 Runs-after B s u f g bf bg a k = record {
   on = λ x. ⊎_elim
       (λ b. let e = a.on (inl (bf s.world b)) in after_same s u f g e (k.on (inl (subst (λ (z : Transition). B (f z.world).world) e b))))
       (λ b. let e = a.on (inr (bg u.world b)) in after_same s u f g e (k.on (inr b))) x;
 }
 
-Runs-same : (B : World → Type 0) (t : Transition) → Runs B t t
+pub Runs-same : (B : World → Type 0) (t : Transition) → Runs B t t
 Runs-same B t = record { on = λ x. refl }
 
-in_turn_back : {X : Type 0} (B : World → Type 0) (f : World → X → Transition) → ((x : X) → Back B (λ w. f w x)) → (xs : List X) → Back B (in_turn f xs)
+pub in_turn_back : {X : Type 0} (B : World → Type 0) (f : World → X → Transition) → ((x : X) → Back B (λ w. f w x)) → (xs : List X) → Back B (in_turn f xs)
 in_turn_back B f one [] w b = b
 in_turn_back B f one (x ∷ xs) w b = one x w (in_turn_back B f one xs (f w x).world b)
 
@@ -51,7 +51,7 @@ all_stay : {X : Type 0} (net : Net) (ok : World → X → Type 0) → ((w u : Wo
 all_stay net ok stays w u l [] b = tt
 all_stay net ok stays w u l (y ∷ ys) b = (stays w u y l b.0, all_stay net ok stays w u l ys b.1)
 
-in_turn_runs : {X : Type 0} (net : Net) (B : World → Type 0) (ok : World → X → Type 0) (f g : World → X → Transition) → ((x : X) → Back B (λ w. f w x)) → ((x : X) → Back B (λ w. g w x)) → ((w u : World) (x : X) → IsLaterWorld net w u → ok w x → ok u x) → ((w : World) (x : X) → WorldFits net w → ok w x → Kept net w (g w x)) →
+pub in_turn_runs : {X : Type 0} (net : Net) (B : World → Type 0) (ok : World → X → Type 0) (f g : World → X → Transition) → ((x : X) → Back B (λ w. f w x)) → ((x : X) → Back B (λ w. g w x)) → ((w u : World) (x : X) → IsLaterWorld net w u → ok w x → ok u x) → ((w : World) (x : X) → WorldFits net w → ok w x → Kept net w (g w x)) →
     ((w : World) (x : X) → WorldFits net w → ok w x → Runs B (f w x) (g w x)) → (xs : List X) (w : World) → WorldFits net w → Each (ok w) xs → Runs B (in_turn f xs w) (in_turn g xs w)
 in_turn_runs net B ok f g bf bg stays kept one [] w fit a = Runs-same B (unchanged w [])
 in_turn_runs net B ok f g bf bg stays kept one (x ∷ xs) w fit a =
@@ -84,7 +84,7 @@ module _ (net : Net) (see : View → Net) (B : World → Type 0) (k : Backs net 
   unfolding hand_down_by
   hand_down_back p first b w x = in_turn_back B (deliver_frame_by see net) k.delivered (filter (is_know_to p b) (frames_past first w.frames)) w x
 
-  wakes_back : (p : ℕ) → Back B (in_turn (wake_up_by see net p) (inwards net p))
+  pub wakes_back : (p : ℕ) → Back B (in_turn (wake_up_by see net p) (inwards net p))
   wakes_back p = in_turn_back B (wake_up_by see net p) (wake_up_back p) (inwards net p)
 
   downs_back : (p first : ℕ) → Back B (in_turn (hand_down_by see net p first) (outwards net p))
@@ -97,7 +97,7 @@ module _ (net : Net) (see : View → Net) (B : World → Type 0) (k : Backs net 
       let t = in_turn (hand_down_by see net p (length w.frames)) (outwards net p) s.world in
       wakes_back p w (downs_back p (length w.frames) s.world (wakes_back p t.world x))
 
-  wake_all_back : (b : ℕ) → Back B (λ w. wake_all_by see net w b)
+  pub wake_all_back : (b : ℕ) → Back B (λ w. wake_all_by see net w b)
   unfolding wake_all_by
   wake_all_back b w x = in_turn_back B (λ u p. wake_for_by see net u b p) (λ p. k.woken b p) (numbers net.publishers) w x
 
@@ -280,7 +280,7 @@ module _ (net : Net) (wants : ℕ → ℕ → ℕ → Event → Bool) (see : Vie
       (Runs-after B (in_turn (wake_up_by see net p) (inwards net p) w) (in_turn (wake_up one p) (inwards one p) w) (in_turn (hand_down_by see net p first) (outwards net p)) (in_turn (hand_down one p first) (outwards one p)) (downs_back net see B ks p first) (downs_back one on_one B ko p first) (wakes_runs p w f j) down)
       (wakes_runs p w2 b.fits j)
 
-  wake_all_runs : (w : World) (b : ℕ) → WorldFits one w → b < net.brokers → Runs B (wake_all_by see net w b) (wake_all one w b)
+  pub wake_all_runs : (w : World) (b : ℕ) → WorldFits one w → b < net.brokers → Runs B (wake_all_by see net w b) (wake_all one w b)
   unfolding wake_all_by
   wake_all_runs w b f i =
       in_turn_runs one B (λ u p. p < net.publishers) (λ u p. wake_for_by see net u b p) (λ u p. wake_for one u b p) (λ p. ks.woken b p) (λ p. ko.woken b p) (λ w u p l h. h) (λ u p g h. wake_for_kept one u b p n g i h) (λ u p g h. s.woken u b p g i h) (numbers net.publishers) w f (numbers_below 0 net.publishers net.publishers (omega arith))

@@ -244,7 +244,7 @@ pub honest_at : (xs ys : List Report) (a : Arrival) → filter is_sent xs ≡ fi
 honest_at xs ys (datagram b bytes moment) e h = ⊎_elim (λ x. inl x) (λ x. inr (x.0, number_sent b bytes ys ∙ (ap (number_of_bytes b bytes) (sym e) ∙ (sym (number_sent b bytes xs) ∙ x.1)))) h
 honest_at xs ys (quiet moment) e h = tt
 
-honest_same : (xs ys : List Report) (arrivals : List Arrival) (rs : List (List Report)) → filter is_sent xs ≡ filter is_sent ys → IsHonest xs arrivals rs → IsHonest ys arrivals rs
+pub honest_same : (xs ys : List Report) (arrivals : List Arrival) (rs : List (List Report)) → filter is_sent xs ≡ filter is_sent ys → IsHonest xs arrivals rs → IsHonest ys arrivals rs
 honest_same xs ys [] rs e h = tt
 honest_same xs ys (a ∷ arrivals) [] e h = h
 honest_same xs ys (a ∷ arrivals) (r ∷ rs) e h = (honest_at xs ys a e h.0, honest_same (xs ++ r) (ys ++ r) arrivals rs (filter-append is_sent xs r ∙ (ap (λ (z : List Report). z ++ filter is_sent r) e ∙ sym (filter-append is_sent ys r))) h.1)
@@ -303,7 +303,7 @@ run_sends net w (l ∷ ls) n f i = sends_seq w (next net w l) (λ u. run_all net
 
 -- The run
 
-each_of : (P : Frame → Type 0) (fs : List Frame) → AllByRecursion P fs → Each P fs
+pub each_of : (P : Frame → Type 0) (fs : List Frame) → AllByRecursion P fs → Each P fs
 each_of P [] a = tt
 each_of P (f ∷ fs) a = (a.0, each_of P fs a.1)
 
