@@ -4,3 +4,5 @@ pub mod AsOne
 pub mod Always
 pub mod Over
 pub mod Serving
+pub mod Served
+pub mod Joint

@@ -4,10 +4,11 @@ use Rattle.std.specs.List.{AllByRecursion}
 use Rattle.gr_sched.specs.declared.step.Line.{Line}
 use Rattle.gr_model.specs.declared.report.Report.{Report}
 use Rattle.gr_model.specs.Net.{Net}
+use Rattle.gr_model.specs.Broker.{View, seen}
 use Rattle.gr_model.specs.World.{World, Transition, start, sent_lines}
 use Rattle.gr_model.specs.Headline.{History, Delivered, InOrder, is_sent}
-use Rattle.gr_model.specs.Arrivals.{Arrival, Publish, publishes_of, left_after}
-use Rattle.gr_model_calls.specs.OneNet.{comes}
+use Rattle.gr_model.specs.Arrivals.{Arrival, Publish, publishes_of, left_after, comes_by}
+use Rattle.gr_model_calls.specs.OneNet.{last_net}
 use Rattle.gr_model_theorems.specs.Spelled.{LateIn, NumbersIn}
 use Rattle.gr_model_theorems.specs.Statements.{IsAskedRun}
 use Rattle.gr_model_theorems.specs.Served.{IsOfBytes, IsHonestAt, steps_at, DoesStepsAt, ArrivalHoldsAt}
@@ -25,15 +26,23 @@ left_of lefts k = get_or lefts k []
 abbrev pub lefts_after : List (List Publish) → ℕ × Arrival → List (List Publish)
 lefts_after lefts x = set lefts x.0 (left_after (left_of lefts x.0) x.1)
 
--- an arrival at the brokers of its process
-abbrev pub joint_comes : Net → List (List ℕ) → World → List (List Publish) → ℕ × Arrival → Transition
-joint_comes net processes w lefts x = comes net (brokers_of processes x.0) w (left_of lefts x.0) x.1
+-- an arrival at the brokers of its process, where each call sees a net of its view
+abbrev pub joint_comes_by : (View → Net) → Net → List (List ℕ) → World → List (List Publish) → ℕ × Arrival
+    → Transition
+joint_comes_by see net processes w lefts x = comes_by see net (brokers_of processes x.0) w (left_of lefts x.0) x.1
 
--- the lines of each arrival
-unfoldable pub joint_from : Net → List (List ℕ) → World → List (List Publish) → List (ℕ × Arrival) → List (List Report)
-joint_from net processes w lefts [] = []
-joint_from net processes w lefts (x ∷ turns) = let t = joint_comes net processes w lefts x in
-    t.lines ∷ joint_from net processes t.world (lefts_after lefts x) turns
+-- the lines of each arrival, and the world in the end
+unfoldable pub joint_from_by : (View → Net) → Net → List (List ℕ) → World → List (List Publish) → List (ℕ × Arrival)
+    → List (List Report)
+joint_from_by see net processes w lefts [] = []
+joint_from_by see net processes w lefts (x ∷ turns) = let t = joint_comes_by see net processes w lefts x in
+    t.lines ∷ joint_from_by see net processes t.world (lefts_after lefts x) turns
+
+unfoldable pub joint_end_by : (View → Net) → Net → List (List ℕ) → World → List (List Publish) → List (ℕ × Arrival)
+    → World
+joint_end_by see net processes w lefts [] = w
+joint_end_by see net processes w lefts (x ∷ turns) = let t = joint_comes_by see net processes w lefts x in
+    joint_end_by see net processes t.world (lefts_after lefts x) turns
 
 -- what each process is to publish
 abbrev pub lefts_at_start : Net → List (List ℕ) → List Line → List (List Publish)
@@ -42,13 +51,25 @@ lefts_at_start net processes steps = map (λ hosted. publishes_of net hosted ste
 -- the lines of a run that begins with nothing
 abbrev pub joint_reports : Net → List (List ℕ) → List Line → List (ℕ × Arrival) → List (List Report)
 joint_reports net processes steps turns =
-    joint_from net processes (start net) (lefts_at_start net processes steps) turns
+    joint_from_by (seen net) net processes (start net) (lefts_at_start net processes steps) turns
+
+-- the net of the joins that the logs have in the end
+abbrev pub joint_net : Net → List (List ℕ) → List Line → List (ℕ × Arrival) → Net
+joint_net net processes steps turns =
+    last_net net (joint_end_by (seen net) net processes (start net) (lefts_at_start net processes steps) turns)
 
 -- each arrival is honest after the lines told so far, by whichever process
 abbrev pub IsHonestJoint : List Report → List (ℕ × Arrival) → List (List Report) → Type 0
 IsHonestJoint lines [] rs = Unit {0}
 IsHonestJoint lines (x ∷ turns) [] = ⊥
 IsHonestJoint lines (x ∷ turns) (r ∷ rs) = IsHonestAt lines x.1 × IsHonestJoint (lines ++ r) turns rs
+
+-- such a run is that on this net
+abbrev pub JointAsOne : Net → List (List ℕ) → List Line → List (ℕ × Arrival) → Type 0
+JointAsOne net processes steps turns =
+    let g = joint_net net processes steps turns in
+    joint_reports net processes steps turns
+    ≡ joint_from_by (λ _. g) g processes (start net) (lefts_at_start net processes steps) turns
 
 -- a run of processes within the limits of frames, whose joint journal is honest
 pub record IsJointRun (net : Net) (processes : List (List ℕ)) (steps : List Line) (turns : List (ℕ × Arrival))
@@ -80,5 +101,5 @@ AllDoStepsJoint net processes w lines lefts (x ∷ turns) =
     (filter is_sent lines ≡ sent_lines 1 w.frames)
     × DoesStepsAt net (brokers_of processes x.0) w (left_of lefts x.0) x.1
     (steps_at net (brokers_of processes x.0) lines (left_of lefts x.0) x.1)
-    × (let t : Transition = joint_comes net processes w lefts x in
+    × (let t : Transition = joint_comes_by (λ _. net) net processes w lefts x in
     AllDoStepsJoint net processes t.world (lines ++ t.lines) (lefts_after lefts x) turns)

@@ -11,11 +11,10 @@ use Rattle.gr_model.specs.Net.{Net, numbers}
 use Rattle.gr_model.specs.Broker.{View, Log, seen}
 use Rattle.gr_model.specs.World.{World, Transition, run_all_by, run_from_by}
 use Rattle.gr_model.specs.Opening.{begin_over, opening_by}
-use Rattle.gr_model_calls.specs.OneNet.{Holds_from, served}
-use Rattle.gr_model.specs.Arrivals.{Arrival, publishes_of, served_by, arrived_by}
+use Rattle.gr_model.specs.Headline.{Holds_from}
+use Rattle.gr_model.specs.Arrivals.{Arrival, publishes_of, served, served_by, arrived_by}
 use Rattle.gr_model_theorems.specs.Spelled.{LateIn, NumbersIn}
-use Rattle.gr_model_theorems.specs.Statements.{IsAskedRun, opened_over}
-use Rattle.gr_model_theorems.specs.OverLogs.{report_over}
+use Rattle.gr_model_theorems.specs.Statements.{IsAskedRun, started_over, lines_over, served_net}
 use Rattle.gr_event.specs.declared.limits.TheConstants.{MAX_JOINS}
 use Rattle.gr_model_theorems.specs.Served.{IsOfBytes, IsHonestRun, HeadlineServed}
 
@@ -86,13 +85,17 @@ pub record IsServedOverLanes (net : Net) (lanes : List (List Record)) (steps : L
 -- A schedule that begins on the logs of lanes: the headline holds, where the record begins with what was found
 abbrev pub HoldsOverLanes : Net → List (List Record) → List Line → Type 0
 HoldsOverLanes net lanes steps =
-    let o : Transition = opened_over net (whole_logs lanes) in
-    Holds_from net (begin_over net (found_logs lanes) o.lines) steps (report_over net (whole_logs lanes) steps)
+    Holds_from net (begin_over net (found_logs lanes) (started_over net (whole_logs lanes)).lines) steps
+    (lines_over net (whole_logs lanes) steps)
+
+-- the net of the joins that the logs have in the end
+abbrev pub lanes_net : Net → List (List Record) → List Line → List Arrival → Net
+lanes_net net lanes steps arrivals = served_net net (found_logs lanes) steps arrivals
 
 -- A server over lanes: so does its headline
 abbrev pub HoldsServedLanes : Net → List (List Record) → List Line → List Arrival → Type 0
 HoldsServedLanes net lanes steps arrivals =
-    HeadlineServed net (found_logs lanes) steps arrivals
+    HeadlineServed (lanes_net net lanes steps arrivals) (found_logs lanes) steps arrivals
     (served net (numbers net.brokers) (whole_logs lanes) steps arrivals)
 
 -- Whatever comes, and whatever net each call sees, events that were cut change nothing: neither the lines, nor the

@@ -7,15 +7,14 @@ use Rattle.gr_model.specs.Net.{Net, numbers}
 use Rattle.gr_model.specs.Broker.{Log}
 use Rattle.gr_model.specs.World.{Transition}
 use Rattle.gr_model.specs.Opening.{begin_over}
-use Rattle.gr_model.specs.Arrivals.{Arrival, Publish, publishes_of, left_after}
-use Rattle.gr_model_calls.specs.OneNet.{served, IsOrdered, TotallyOrdered_from}
+use Rattle.gr_model.specs.Arrivals.{Arrival, Publish, publishes_of, left_after, served}
+use Rattle.gr_model_calls.specs.OneNet.{IsOrdered, TotallyOrdered_from}
 use Rattle.gr_model.specs.Headline.{History}
 use Rattle.gr_model.specs.Orders.{orders_over, ordered_steps}
 use Rattle.gr_model.specs.Ordered.{OneOrder}
 use Rattle.gr_model_theorems.specs.Served.{ArrivalHolds}
-use Rattle.gr_model_theorems.specs.Statements.{opened_over}
-use Rattle.gr_model_theorems.specs.OverLogs.{report_over}
-use Rattle.gr_model_theorems.specs.Lanes.{whole_logs, found_logs}
+use Rattle.gr_model_theorems.specs.Statements.{started_over, lines_over, over_net}
+use Rattle.gr_model_theorems.specs.Lanes.{whole_logs, found_logs, lanes_net}
 
 -- Of a report, what is told in one order of these subscribers behind the lines of each step
 abbrev pub told_in_order : Net → List ℕ → List (List Report) → List (List Report)
@@ -26,7 +25,7 @@ told_in_order net totals rs = ordered_steps (orders_over net.publishers totals) 
 -- the lines of the opening, and then those of each step
 abbrev pub opened_report : Net → List (List Record) → List Line → List (List Report)
 opened_report net lanes steps =
-    let o : Transition = opened_over net (whole_logs lanes) in o.lines ∷ report_over net (whole_logs lanes) steps
+    (started_over net (whole_logs lanes)).lines ∷ lines_over net (whole_logs lanes) steps
 
 -- each of these subscribers was told exactly what all publishers have up to where it has heard them all, after the
 -- opening and after each step; the record begins with what was found
@@ -38,7 +37,14 @@ TotallyOrderedOver net totals logs steps _ _ = ⊥
 abbrev pub OrderedOverLanes : Net → List ℕ → List (List Record) → List Line → Type 0
 OrderedOverLanes net totals lanes steps =
     let rs = opened_report net lanes steps in
-    TotallyOrderedOver net totals (found_logs lanes) steps rs (told_in_order net totals rs)
+    TotallyOrderedOver (over_net net (found_logs lanes) steps) totals (found_logs lanes) steps rs
+    (told_in_order net totals rs)
+
+-- and of two of these subscribers that want the same, at any two steps, one list begins with the other
+abbrev pub OneOrderOverLanes : Net → List ℕ → List (List Record) → List Line → Type 0
+OneOrderOverLanes net totals lanes steps =
+    OneOrder (over_net net (found_logs lanes) steps) totals
+    (told_in_order net totals (opened_report net lanes steps))
 
 -- A server over lanes
 
@@ -63,10 +69,11 @@ TotallyOrderedServed net totals logs steps arrivals _ _ = ⊥
 abbrev pub OrderedServedLanes : Net → List ℕ → List (List Record) → List Line → List Arrival → Type 0
 OrderedServedLanes net totals lanes steps arrivals =
     let rs = served net (numbers net.brokers) (whole_logs lanes) steps arrivals in
-    TotallyOrderedServed net totals (found_logs lanes) steps arrivals rs (told_in_order net totals rs)
+    TotallyOrderedServed (lanes_net net lanes steps arrivals) totals (found_logs lanes) steps arrivals rs
+    (told_in_order net totals rs)
 
 -- and of two of these subscribers that want the same, at any two arrivals, one list begins with the other
 abbrev pub OneOrderServedLanes : Net → List ℕ → List (List Record) → List Line → List Arrival → Type 0
 OneOrderServedLanes net totals lanes steps arrivals =
-    OneOrder net totals
+    OneOrder (lanes_net net lanes steps arrivals) totals
     (told_in_order net totals (served net (numbers net.brokers) (whole_logs lanes) steps arrivals))

@@ -14,12 +14,12 @@ use Rattle.gr_model.specs.declared.report.Report.{Report}
 use Rattle.gr_model.specs.Net.{Net, not_empty, numbers}
 use Rattle.gr_model.specs.Tree.{IsNet, IsSubscriber, IsDistinct}
 use Rattle.gr_model.specs.Broker.{Log, clashes}
-use Rattle.gr_model.specs.World.{World, Transition, view_of, log_of, frame_at, start, run_all, next, sweep}
+use Rattle.gr_model.specs.World.{World, Transition, view_of, log_of, frame_at, start, run_all, run_from, next, sweep}
 use Rattle.gr_model_calls.specs.OneNet.{last_net}
 use Rattle.gr_model_calls.specs.OneNet as one
-use Rattle.gr_model.specs.Opening.{publishers_at, begin_over}
-use Rattle.gr_model.specs.Arrivals.{Arrival, publishes_of, clash_runs, first_of}
-use Rattle.gr_model.specs.Headline.{History, GetsExactly, recorded_net, is_doubt_line, doubt_place, doubts_shown}
+use Rattle.gr_model.specs.Opening.{opening, publishers_at, begin_over}
+use Rattle.gr_model.specs.Arrivals.{served, arrived, Arrival, publishes_of, clash_runs, first_of}
+use Rattle.gr_model.specs.Headline.{History, GetsExactly, Holds_from, recorded_net, is_doubt_line, doubt_place, doubts_shown}
 use Rattle.gr_model_calls.specs.Fits.{StepsIn}
 use Rattle.gr_model_theorems.specs.Order.{CutsInOrder}
 use Rattle.gr_model_calls.specs.Edges.{GoesOverEdge}
@@ -81,7 +81,7 @@ pub record IsServedRun (net : Net) (logs : List Log) (steps : List Line) (arriva
   pub late : LateIn net
   pub numbers_in : NumbersIn steps
   pub bytes : AllByRecursion IsOfBytes arrivals
-  pub honest : IsHonestRun arrivals (one.served net (numbers net.brokers) logs steps arrivals)
+  pub honest : IsHonestRun arrivals (served net (numbers net.brokers) logs steps arrivals)
 
 -- the world after all steps
 abbrev pub world_after : Net → List Line → World
@@ -144,49 +144,81 @@ SweepsAsOne net steps k =
 
 -- Over old logs, and at a server
 
--- all brokers start over these logs
+-- all brokers start over these logs, where every call sees one net
 abbrev pub opened_over : Net → List Log → Transition
 opened_over net logs = one.opening net (numbers net.brokers) logs
+
+-- and where each sees the joins that its broker holds; the world after the steps from there, and their lines
+abbrev pub started_over : Net → List Log → Transition
+started_over net logs = opening net (numbers net.brokers) logs
+
+abbrev pub ended_over : Net → List Log → List Line → World
+ended_over net logs steps = (run_all net (started_over net logs).world steps).world
+
+abbrev pub lines_over : Net → List Log → List Line → List (List Report)
+lines_over net logs steps = run_from net (started_over net logs).world steps
+
+-- the net of the joins that the logs have in the end
+abbrev pub over_net : Net → List Log → List Line → Net
+over_net net logs steps = last_net net (ended_over net logs steps)
+
+-- such a run is that on this net
+pub record RunsOverAsOne (net : Net) (logs : List Log) (steps : List Line) : Type 0 where
+  pub opens : started_over net logs ≡ opened_over (over_net net logs steps) logs
+  pub run : run_all net (started_over net logs).world steps
+      ≡ one.run_all (over_net net logs steps) (started_over net logs).world steps
+  pub lines : lines_over net logs steps ≡ one.run_from (over_net net logs steps) (started_over net logs).world steps
 
 -- of a schedule that begins on these logs the headline holds
 abbrev pub HoldsOverLogs : Net → List Log → List Line → Type 0
 HoldsOverLogs net logs steps =
-    let o : Transition = opened_over net logs in
-    one.Holds_from net (begin_over net logs o.lines) steps (one.run_from net o.world steps)
+    Holds_from net (begin_over net logs (started_over net logs).lines) steps (lines_over net logs steps)
 
--- the opening tells each log that is not empty, and what the subscribers at its host get at once
+-- the opening tells each log that is not empty, and what the subscribers at its host get at once, by the joins of the
+-- logs
 abbrev pub OpeningTells : Net → List Log → Type 0
 OpeningTells net logs =
-    let o : Transition = opened_over net logs in
-    o.lines ≡ flat_map (told_at_opening net logs) (publishers_at net (numbers net.brokers))
+    (started_over net logs).lines
+    ≡ flat_map (told_at_opening (over_net net logs []) logs) (publishers_at net (numbers net.brokers))
 
 -- and it sends nothing
 abbrev pub OpeningSendsNothing : Net → List Log → Type 0
-OpeningSendsNothing net logs = let o : Transition = opened_over net logs in o.world.frames ≡ []
+OpeningSendsNothing net logs = (started_over net logs).world.frames ≡ []
 
 -- what the opening and then the steps tell and leave is by the rules
 abbrev pub RunsOverByRules : Net → List Log → List Line → Type 0
 RunsOverByRules net logs steps =
-    let o : Transition = opened_over net logs in
-    RunsOver net logs steps o.lines (one.run_from net o.world steps) (one.run_all net o.world steps).world
+    RunsOver (over_net net logs steps) logs steps (started_over net logs).lines (lines_over net logs steps)
+    (ended_over net logs steps)
 
 -- and nothing else is
 abbrev pub RunsOverByNoOther : Net → List Log → List Line → Type 0
 RunsOverByNoOther net logs steps =
-    (told : List Report) (rs : List (List Report)) (w : World) → RunsOver net logs steps told rs w →
-    (let o : Transition = opened_over net logs in
-    (told ≡ o.lines) × (rs ≡ one.run_from net o.world steps) × (w ≡ (one.run_all net o.world steps).world))
+    (told : List Report) (rs : List (List Report)) (w : World) → RunsOver (last_net net w) logs steps told rs w →
+    (told ≡ (started_over net logs).lines) × (rs ≡ lines_over net logs steps) × (w ≡ ended_over net logs steps)
+
+-- the world after a journal that comes to all brokers, and the net of the joins that the logs have then
+abbrev pub served_end : Net → List Log → List Line → List Arrival → World
+served_end net logs steps arrivals =
+    arrived net (numbers net.brokers) (started_over net logs).world (publishes_of net (numbers net.brokers) steps)
+    arrivals
+
+abbrev pub served_net : Net → List Log → List Line → List Arrival → Net
+served_net net logs steps arrivals = last_net net (served_end net logs steps arrivals)
 
 -- what a server of all brokers reports meets the headline
 abbrev pub MeetsHeadlineServed : Net → List Log → List Line → List Arrival → Type 0
 MeetsHeadlineServed net logs steps arrivals =
-    HeadlineServed net logs steps arrivals (one.served net (numbers net.brokers) logs steps arrivals)
+    HeadlineServed (served_net net logs steps arrivals) logs steps arrivals
+    (served net (numbers net.brokers) logs steps arrivals)
 
--- each arrival does its steps
-abbrev pub ArrivalsDoSteps : Net → List Log → List Line → List Arrival → Type 0
-ArrivalsDoSteps net logs steps arrivals =
-    let o : Transition = opened_over net logs in
-    AllDoSteps net o.world o.lines (publishes_of net (numbers net.brokers) steps) arrivals
+-- each arrival does its steps on that net; and what is reported there, and the world in the end, are the same
+pub record ArrivalsDoSteps (net : Net) (logs : List Log) (steps : List Line) (arrivals : List Arrival) : Type 0 where
+  pub opens : started_over net logs ≡ opened_over (served_net net logs steps arrivals) logs
+  pub does : AllDoSteps (served_net net logs steps arrivals) (started_over net logs).world (started_over net logs).lines
+      (publishes_of net (numbers net.brokers) steps) arrivals
+  pub reports : served net (numbers net.brokers) logs steps arrivals
+      ≡ one.served (served_net net logs steps arrivals) (numbers net.brokers) logs steps arrivals
 
 -- the tick that is named where a datagram clashes with what is known, or none
 abbrev pub FirstClash : Known → Known → Option ℕ → Type 0

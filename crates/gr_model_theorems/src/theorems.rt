@@ -30,9 +30,10 @@ ghost use Rattle.gr_model_theorems.specs.OverLogs.{StandsOver};
 ghost use Rattle.gr_publog.specs.declared.record.Record.{Record};
 ghost use Rattle.gr_model_theorems.specs.Lanes.{AllFollow, IsRunOverLanes, IsServedOverLanes, found_logs, FoundIsPastCut};
 ghost use Rattle.gr_model_theorems.specs.Lanes.{HoldsOverLanes, HoldsServedLanes, CutEventsSilent};
-ghost use Rattle.gr_model_theorems.specs.OrderedServed.{told_in_order, opened_report, OrderedOverLanes};
+ghost use Rattle.gr_model_theorems.specs.OrderedServed.{OrderedOverLanes, OneOrderOverLanes};
 ghost use Rattle.gr_model_theorems.specs.OrderedServed.{OrderedServedLanes, OneOrderServedLanes};
 ghost use Rattle.gr_model_theorems.specs.Joint.{IsJointRun, HoldsJoint, AllDoStepsJoint, joint_reports, lefts_at_start};
+ghost use Rattle.gr_model_theorems.specs.Joint.{joint_net, JointAsOne};
 ghost use Rattle.gr_model_theorems.specs.Examples.{WorkedExamples};
 ghost use Rattle.gr_model_theorems.specs.ServedExample.{ServedExamples};
 ghost use Rattle.gr_model.specs.Orders.{orders_over, ordered_steps};
@@ -40,7 +41,7 @@ ghost use Rattle.gr_model.specs.Ordered.{OneOrder, TotallyOrdered};
 ghost use Rattle.gr_model_theorems.specs.Statements.{IsRun, IsMarkedRun, IsAskedRun, IsSweptRun, IsSpelledRun, IsRunOverLogs};
 ghost use Rattle.gr_model_theorems.specs.Statements.{AreTotals};
 ghost use Rattle.gr_model_theorems.specs.Statements.{IsServedRun, world_after, NothingClashes, NothingStrays};
-ghost use Rattle.gr_model_theorems.specs.Statements.{NothingSplits, AllSpelled, joined_net, SweepsAsOne};
+ghost use Rattle.gr_model_theorems.specs.Statements.{NothingSplits, AllSpelled, joined_net, SweepsAsOne, over_net, RunsOverAsOne};
 ghost use Rattle.gr_model_theorems.specs.Statements.{AllDecode, AllGetExactly, AllCutsInOrder, HostsMeet, DoubtsStand};
 ghost use Rattle.gr_model_theorems.specs.Statements.{HoldsOverLogs, OpeningTells, OpeningSendsNothing, RunsOverByRules};
 ghost use Rattle.gr_model_theorems.specs.Statements.{RunsOverByNoOther, MeetsHeadlineServed, ArrivalsDoSteps, FirstClash};
@@ -200,8 +201,10 @@ pub fn fits_always()
 /// replied as they are to be, nothing that was sent clashes, and a sweep settles everything and hands over all that is
 /// recorded.
 pub fn stands_over_logs()
-    ensures { (net : Net) (logs : List Log) (steps : List Line) → IsRunOverLogs net logs steps →
-        StandsOver net logs steps }
+    ensures stands { (net : Net) (logs : List Log) (steps : List Line) → IsRunOverLogs net logs steps →
+        StandsOver (over_net net logs steps) logs steps }
+    ensures same { (net : Net) (logs : List Log) (steps : List Line) → IsRunOverLogs net logs steps →
+        RunsOverAsOne net logs steps }
 {}
 
 /// The headline over logs that were found, whole, over every schedule that begins on them: what each subscriber gets is
@@ -259,7 +262,7 @@ pub fn ordered_over_lanes()
 pub fn one_order_over_lanes()
     ensures schedules { (net : Net) (totals : List ℕ) (lanes : List (List Record)) (steps : List Line) →
         IsRunOverLanes net lanes steps → AreTotals net totals →
-        OneOrder net totals (told_in_order net totals (opened_report net lanes steps)) }
+        OneOrderOverLanes net totals lanes steps }
     ensures served { (net : Net) (totals : List ℕ) (lanes : List (List Record)) (steps : List Line)
         (arrivals : List Arrival) → IsServedOverLanes net lanes steps arrivals → AreTotals net totals →
         OneOrderServedLanes net totals lanes steps arrivals }
@@ -272,11 +275,14 @@ pub fn one_order_over_lanes()
 pub fn headline_joint()
     ensures headline { (net : Net) (processes : List (List ℕ)) (steps : List Line) (turns : List (ℕ × Arrival)) →
         IsJointRun net processes steps turns →
-        HoldsJoint net processes (begin net) (lefts_at_start net processes steps) turns
-        (joint_reports net processes steps turns) }
+        HoldsJoint (joint_net net processes steps turns) processes (begin net) (lefts_at_start net processes steps)
+        turns (joint_reports net processes steps turns) }
     ensures calls { (net : Net) (processes : List (List ℕ)) (steps : List Line) (turns : List (ℕ × Arrival)) →
         IsJointRun net processes steps turns →
-        AllDoStepsJoint net processes (start net) [] (lefts_at_start net processes steps) turns }
+        AllDoStepsJoint (joint_net net processes steps turns) processes (start net) []
+        (lefts_at_start net processes steps) turns }
+    ensures same { (net : Net) (processes : List (List ℕ)) (steps : List Line) (turns : List (ℕ × Arrival)) →
+        IsJointRun net processes steps turns → JointAsOne net processes steps turns }
 {}
 
 /// Worked examples of a server: a whole run over three arrivals, and a start over an old log.

@@ -12,18 +12,25 @@ use Rattle.gr_model.specs.Opening.{reopened_log, over_logs, publishers_at, opene
 use Rattle.gr_model.specs.Headline.{Recorded, nothing_recorded, History, history, record_of, Holds_from, Holds_from_by}
 use Rattle.gr_model_calls.specs.OneNet as one
 use Rattle.gr_model_calls.specs.OneNet.{last_net}
+use Rattle.gr_model_calls.specs.Truth.{Grows}
 use Rattle.gr_model_calls.specs.Fits.{WorldFits, StepsIn}
 use Rattle.gr_model_calls.proofs.calls.Calls.{rise_upto}
 use Rattle.gr_model_calls.proofs.calls.Held.{grows_not}
 use Rattle.gr_model_calls.proofs.runs.Worlds.{Each}
 use Rattle.gr_model_calls.proofs.runs.Seeing.{Back, Runs, Runs-same, Runs-after, in_turn_back, run_back}
 use Rattle.gr_model_calls.proofs.joins.Growing.{AheadOf, growing}
-use Rattle.gr_model_calls.proofs.joins.OneRun.{IsNet-with}
+use Rattle.gr_model_calls.proofs.joins.OneRun.{IsNet-with, run_is, lines_are}
 use Rattle.gr_model_calls.proofs.joins.Opened.{opened_back, opened_same}
+use Rattle.gr_model_theorems.specs.Statements.{started_over, ended_over, over_net, RunsOverByRules, RunsOverByNoOther, OpeningTells, OpeningSendsNothing, RunsOverAsOne}
 use Rattle.gr_model_theorems.specs.Found.{IsReopened, AreReopened}
 use Rattle.gr_model_theorems.proofs.records.Recorded.{record_core, runs}
 use Rattle.gr_model_theorems.proofs.server.Opening.{Opening, opening_turn, over_opening}
 use Rattle.gr_model_theorems.proofs.server.OverLogs.{publishers_below, opened, opened_whole, headline_over_logs as headline_on_one}
+use Rattle.gr_model_theorems.specs.ByRules.{RunsOver}
+use Rattle.gr_model_theorems.specs.OverLogs.{StandsOver}
+use Rattle.gr_model_theorems.proofs.server.OpenedLines.{opened_tells, opened_sends_nothing}
+use Rattle.gr_model_theorems.proofs.server.OpenedFits.{stands_over_logs}
+use Rattle.gr_model_theorems.proofs.server.OpensByRules.{over_by_rules as rules_on_one, over_once as once_on_one}
 use Rattle.gr_model_theorems.proofs.joins.Owing.{RecordsUpto, holds_on}
 use Rattle.gr_model_theorems.proofs.joins.AsOne.{OnAsOne, on_as_one, steps_in, history_same}
 
@@ -58,39 +65,29 @@ module _ (net : Net) (last : ℕ → Joins) (n : IsNet net) where
       subst (λ (w : World). Runs (AheadOf net last) (in_turn (opened_for_by (seen net) net) (publishers_at net (numbers net.brokers)) w) (in_turn (one.opened_for g) (publishers_at net (numbers net.brokers)) (over_logs g logs))) (over_same net g.wants logs)
       (turns_are logs (over_logs g logs) [] (publishers_at net (numbers net.brokers)) (publishers_below net (numbers net.brokers)) first)
 
--- the opening, and where the steps after it lead
-abbrev pub opened_on : Net → List Log → Transition
-opened_on net logs = opening net (numbers net.brokers) logs
-
-abbrev pub ended_on : Net → List Log → List Line → World
-ended_on net logs steps = (run_all net (opened_on net logs).world steps).world
-
-abbrev pub over_net : Net → List Log → List Line → Net
-over_net net logs steps = last_net net (ended_on net logs steps)
-
 pub record OverAsOne (net : Net) (logs : List Log) (steps : List Line) : Type 0 where
   pub tree : IsNet (over_net net logs steps)
   pub steps_in : StepsIn (over_net net logs steps) steps
   pub reopened : AreReopened (over_net net logs steps) logs
-  pub opens : opened_on net logs ≡ one.opening (over_net net logs steps) (numbers net.brokers) logs
-  pub run : run_all net (opened_on net logs).world steps ≡ one.run_all (over_net net logs steps) (opened_on net logs).world steps
-  pub lines : run_from net (opened_on net logs).world steps ≡ one.run_from (over_net net logs steps) (opened_on net logs).world steps
+  pub opens : started_over net logs ≡ one.opening (over_net net logs steps) (numbers net.brokers) logs
+  pub run : run_all net (started_over net logs).world steps ≡ one.run_all (over_net net logs steps) (started_over net logs).world steps
+  pub lines : run_from net (started_over net logs).world steps ≡ one.run_from (over_net net logs steps) (started_over net logs).world steps
 
 pub over_as_one : (net : Net) (logs : List Log) (steps : List Line) → IsNet net → AreReopened net logs → StepsIn net steps → OverAsOne net logs steps
 over_as_one net logs steps n a i =
     let g = over_net net logs steps in
     let m : IsNet g = IsNet-with net g.wants n in
     let b : AreReopened g logs = reopened_in net g.wants logs a in
-    let e = (opening_runs net last n logs a).on (inl (run_back net (seen net) (AheadOf net last) (growing net (seen net) last) steps (opened_on net logs).world ends)) in
-    let f : WorldFits g (opened_on net logs).world = subst (λ (t : Transition). WorldFits g t.world) (sym e) (opened g logs m b).fits in
-    let x = on_as_one net (opened_on net logs).world steps n f i in
+    let e = (opening_runs net last n logs a).on (inl (run_back net (seen net) (AheadOf net last) (growing net (seen net) last) steps (started_over net logs).world ends)) in
+    let f : WorldFits g (started_over net logs).world = subst (λ (t : Transition). WorldFits g t.world) (sym e) (opened g logs m b).fits in
+    let x = on_as_one net (started_over net logs).world steps n f i in
     record { tree = m; steps_in = steps_in net g.wants steps i; reopened = b; opens = e; run = x.run; lines = x.lines }
   where
     last : ℕ → Joins
-    last p = (log_of (ended_on net logs steps) p).joins
+    last p = (log_of (ended_over net logs steps) p).joins
 
-    ends : AheadOf net last (ended_on net logs steps)
-    ends p j = let l = log_of (ended_on net logs steps) p in grows_not l.joins l.settled
+    ends : AheadOf net last (ended_over net logs steps)
+    ends p j = let l = log_of (ended_over net logs steps) p in grows_not l.joins l.settled
 
 -- The headline
 
@@ -108,7 +105,7 @@ found_upto net logs told a = go (numbers net.publishers)
     go (p ∷ ps) (suc q) = go ps q
 
 pub headline_over : (net : Net) (logs : List Log) (steps : List Line) → IsNet net → 1 ≤ net.quiet → 1 ≤ net.retry → AreReopened net logs → StepsIn net steps
-    → Holds_from net (begin_over net logs (opened_on net logs).lines) steps (run_from net (opened_on net logs).world steps)
+    → Holds_from net (begin_over net logs (started_over net logs).lines) steps (run_from net (started_over net logs).world steps)
 headline_over net logs steps n z r a i =
     let x = over_as_one net logs steps n a i in
     let g = over_net net logs steps in
@@ -121,8 +118,8 @@ headline_over net logs steps n z r a i =
     ap (λ (c : Recorded). c.joined) (record_core g (one.run_all g o.world steps).world (history g h steps (one.run_from g o.world steps)) p fit)
     ∙ ap (λ (t : Transition). (log_of (one.run_all g t.world steps).world p).joins) (sym x.opens)
     ∙ ap (λ (t : Transition). (log_of t.world p).joins) (sym x.run) in
-    let lines : run_from net (opened_on net logs).world steps ≡ one.run_from g o.world steps = x.lines ∙ ap (λ (t : Transition). one.run_from g t.world steps) x.opens in
-    subst (λ (t : Transition). Holds_from net (begin_over net logs t.lines) steps (run_from net (opened_on net logs).world steps)) (sym x.opens)
+    let lines : run_from net (started_over net logs).world steps ≡ one.run_from g o.world steps = x.lines ∙ ap (λ (t : Transition). one.run_from g t.world steps) x.opens in
+    subst (λ (t : Transition). Holds_from net (begin_over net logs t.lines) steps (run_from net (started_over net logs).world steps)) (sym x.opens)
     (subst (λ (rs : List (List Report)). Holds_from net (begin_over net logs o.lines) steps rs) (sym lines)
     (subst (λ (k : History). Holds_from net k steps (one.run_from g o.world steps)) (begin_same net g.wants logs o.lines)
     (holds_on net last h steps (one.run_from g o.world steps)
@@ -130,4 +127,63 @@ headline_over net logs steps n z r a i =
     (found_upto g logs o.lines x.reopened) on)))
   where
     last : ℕ → Joins
-    last p = (log_of (ended_on net logs steps) p).joins
+    last p = (log_of (ended_over net logs steps) p).joins
+
+-- What the opening tells
+
+pub opening_tells : (net : Net) (logs : List Log) → IsNet net → AreReopened net logs → OpeningTells net logs
+opening_tells net logs n a =
+    let x = over_as_one net logs [] n a tt in
+    ap (λ (t : Transition). t.lines) x.opens ∙ opened_tells (over_net net logs []) logs x.tree x.reopened
+
+pub opening_sends_nothing : (net : Net) (logs : List Log) → IsNet net → AreReopened net logs → OpeningSendsNothing net logs
+opening_sends_nothing net logs n a =
+    let x = over_as_one net logs [] n a tt in
+    ap (λ (t : Transition). t.world.frames) x.opens ∙ opened_sends_nothing (over_net net logs []) logs x.tree x.reopened
+
+-- One run
+
+pub runs_as_one : (net : Net) (logs : List Log) (steps : List Line) → IsNet net → AreReopened net logs → StepsIn net steps → RunsOverAsOne net logs steps
+runs_as_one net logs steps n a i = let x = over_as_one net logs steps n a i in record { opens = x.opens; run = x.run; lines = x.lines }
+
+pub over_stands : (net : Net) (logs : List Log) (steps : List Line) → IsNet net → 1 ≤ net.quiet → 1 ≤ net.retry → AreReopened net logs → StepsIn net steps → StandsOver (over_net net logs steps) logs steps
+over_stands net logs steps n z r a i = let x = over_as_one net logs steps n a i in stands_over_logs (over_net net logs steps) logs steps x.tree z r x.reopened x.steps_in
+
+-- By the rules
+
+pub over_by_rules : (net : Net) (logs : List Log) (steps : List Line) → IsNet net → 1 ≤ net.quiet → AreReopened net logs → StepsIn net steps → RunsOverByRules net logs steps
+over_by_rules net logs steps n z a i =
+    let x = over_as_one net logs steps n a i in
+    let g = over_net net logs steps in
+    subst (λ (t : Transition). RunsOver g logs steps t.lines (run_from net t.world steps) (run_all net t.world steps).world) (sym x.opens)
+    (subst (λ (rs : List (List Report)). RunsOver g logs steps (one.opening g (numbers net.brokers) logs).lines rs (run_all net (one.opening g (numbers net.brokers) logs).world steps).world) (sym (moved_lines x))
+    (subst (λ (t : Transition). RunsOver g logs steps (one.opening g (numbers net.brokers) logs).lines (one.run_from g (one.opening g (numbers net.brokers) logs).world steps) t.world) (sym (moved_run x)) (rules_on_one g logs steps x.tree z x.reopened x.steps_in)))
+  where
+    moved_lines : OverAsOne net logs steps → (let o = one.opening (over_net net logs steps) (numbers net.brokers) logs in run_from net o.world steps ≡ one.run_from (over_net net logs steps) o.world steps)
+    moved_lines x = subst (λ (t : Transition). run_from net t.world steps ≡ one.run_from (over_net net logs steps) t.world steps) x.opens x.lines
+
+    moved_run : OverAsOne net logs steps → (let o = one.opening (over_net net logs steps) (numbers net.brokers) logs in run_all net o.world steps ≡ one.run_all (over_net net logs steps) o.world steps)
+    moved_run x = subst (λ (t : Transition). run_all net t.world steps ≡ one.run_all (over_net net logs steps) t.world steps) x.opens x.run
+
+pub over_once : (net : Net) (logs : List Log) (steps : List Line) → IsNet net → 1 ≤ net.quiet → AreReopened net logs → StepsIn net steps → RunsOverByNoOther net logs steps
+over_once net logs steps n z a i told rs w by =
+    let wants : ℕ → ℕ → ℕ → Event → Bool = λ p s t e. wants_with net (last p) p s t e in
+    let g = last_net net w in
+    let tree : IsNet g = IsNet-with net wants n in
+    let into : StepsIn g steps = steps_in net wants steps i in
+    let found : AreReopened g logs = reopened_in net wants logs a in
+    let o = one.opening g (numbers net.brokers) logs in
+    let y = once_on_one g logs steps told rs w tree z found into by in
+    let ends : (p : ℕ) → p < net.publishers → (log_of (one.run_all g o.world steps).world p).joins ≡ last p = λ p j. ap (λ (u : World). (log_of u p).joins) (sym y.2) in
+    let at_end : AheadOf net last (one.run_all g o.world steps).world = λ p j. let l = log_of (one.run_all g o.world steps).world p in subst (λ (js : Joins). Grows l.joins js l.settled) (ends p j) (grows_not l.joins l.settled) in
+    let opens : started_over net logs ≡ o = (opening_runs net last n logs a).on (inr (run_back g (λ _. g) (AheadOf net last) (growing g (λ _. g) last) steps o.world at_end)) in
+    let f : WorldFits g o.world = (opened g logs tree found).fits in
+    let run : run_all net o.world steps ≡ one.run_all g o.world steps = run_is net last steps n into o.world f (inr ends) in
+    let lines : run_from net o.world steps ≡ one.run_from g o.world steps = lines_are net last steps n into o.world f (inr ends) in (
+      y.0 ∙ ap (λ (t : Transition). t.lines) (sym opens),
+      y.1 ∙ (sym lines ∙ ap (λ (t : Transition). run_from net t.world steps) (sym opens)),
+      y.2 ∙ (ap (λ (t : Transition). t.world) (sym run) ∙ ap (λ (t : Transition). (run_all net t.world steps).world) (sym opens)),
+    )
+  where
+    last : ℕ → Joins
+    last p = (log_of w p).joins

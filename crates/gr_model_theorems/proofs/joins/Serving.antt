@@ -53,7 +53,7 @@ module _ (m : Net) (see : View → Net) (last : ℕ → Joins) where
   wakes_back : (hosted : List ℕ) → Back ahead (in_turn (wake_all_by see m) hosted)
   wakes_back hosted = in_turn_back ahead (wake_all_by see m) (λ b. wake_all_back m see ahead (growing m see last) b) hosted
 
-  comes_back : (hosted : List ℕ) (left : List Publish) (a : Arrival) → Back ahead (λ w. comes_by see m hosted w left a)
+  pub comes_back : (hosted : List ℕ) (left : List Publish) (a : Arrival) → Back ahead (λ w. comes_by see m hosted w left a)
   unfolding comes_by quieted_by notes_by receives_by takes_by
   comes_back hosted left (quiet moment) w b = first_back left (at_moment w moment) (wakes_back hosted (published_first_by see m (at_moment w moment) left).world b)
   comes_back hosted left (datagram c bytes moment) w x = go (begins_note bytes) x

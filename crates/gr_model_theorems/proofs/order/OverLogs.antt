@@ -27,7 +27,7 @@ use Rattle.gr_event.specs.declared.limits.TheConstants.{MAX_JOINS}
 use Rattle.gr_model_theorems.proofs.order.OneOrder.{AtEnd, last_step, in_one_order}
 
 -- from an opening over logs that were found
-ordered_over : (net : Net) (totals : List ℕ) (logs : List Log) (steps : List Line) → IsNet net → 1 ≤ net.quiet → AreReopened net logs → StepsIn net steps → IsDistinct totals → ((s : ℕ) → list_any (λ x. nat_eq x s) totals ≡ true → s < net.subscribers)
+pub ordered_over : (net : Net) (totals : List ℕ) (logs : List Log) (steps : List Line) → IsNet net → 1 ≤ net.quiet → AreReopened net logs → StepsIn net steps → IsDistinct totals → ((s : ℕ) → list_any (λ x. nat_eq x s) totals ≡ true → s < net.subscribers)
     → (let o : Transition = opened_over net logs in
     let rs : List (List Report) = o.lines ∷ run_from net o.world steps in
     TotallyOrderedOver net totals logs steps rs (told_in_order net totals rs))
@@ -38,29 +38,9 @@ ordered_over net totals logs steps n z a i apart below =
     from_here net totals o.world (begin_over net logs o.lines) (ordered next) (without_ordered next) (o.lines ∷ []) steps n z i apart (λ s here. n.subscriber s (below s here)) (opened_whole net logs n a).stands
     (begins net totals (begin_over net logs o.lines) o.lines (begun_lines net logs o.lines))
 
--- and over lanes, since what was cut changes no line
-report_same : (net : Net) (late : List ℕ) (lanes : List (List Record)) (steps : List Line) → AllFollow late lanes → (let o : Transition = opened_over net (found_logs lanes) in opened_report net lanes steps ≡ o.lines ∷ run_from net o.world steps)
-report_same net late lanes steps a =
-    let o : Transition = opened_over net (found_logs lanes) in
-    ap (λ (t : Transition). t.lines ∷ run_from net (opened_over net (whole_logs lanes)).world steps) (opened_same (λ _. net) net late lanes a).is
-    ∙ ap (λ (rs : List (List Report)). o.lines ∷ rs) (lines_same (λ _. net) net late lanes steps a)
-
-pub ordered_lanes : (net : Net) (totals : List ℕ) (lanes : List (List Record)) (steps : List Line) → IsNet net → 1 ≤ net.quiet → length net.late ≤ MAX_JOINS → AllFollow net.late lanes → StepsIn net steps → IsDistinct totals → ((s : ℕ) → list_any (λ x. nat_eq x s) totals ≡ true → s < net.subscribers)
-    → OrderedOverLanes net totals lanes steps
-ordered_lanes net totals lanes steps n z few a i apart below =
-    subst (λ (rs : List (List Report)). TotallyOrderedOver net totals (found_logs lanes) steps rs (told_in_order net totals rs)) (sym (report_same net net.late lanes steps a))
-    (ordered_over net totals (found_logs lanes) steps n z (are_found net lanes few a) i apart below)
-
 -- ---- one order
 
-at_end : (net : Net) (totals : List ℕ) (logs : List Log) (steps : List Line) (rs told : List (List Report)) → TotallyOrderedOver net totals logs steps rs told → AtEnd net totals (joined told)
+pub at_end : (net : Net) (totals : List ℕ) (logs : List Log) (steps : List Line) (rs told : List (List Report)) → TotallyOrderedOver net totals logs steps rs told → AtEnd net totals (joined told)
 at_end net totals logs steps [] told k = absurd k
 at_end net totals logs steps (r ∷ rs) [] k = absurd k
 at_end net totals logs steps (r ∷ rs) (o ∷ os) k = last_step net totals (begin_over net logs r) o steps rs os k
-
-pub one_order_lanes : (net : Net) (totals : List ℕ) (lanes : List (List Record)) (steps : List Line) → IsNet net → 1 ≤ net.quiet → length net.late ≤ MAX_JOINS → AllFollow net.late lanes → StepsIn net steps → IsDistinct totals → ((s : ℕ) → list_any (λ x. nat_eq x s) totals ≡ true → s < net.subscribers)
-    → OneOrder net totals (told_in_order net totals (opened_report net lanes steps))
-one_order_lanes net totals lanes steps n z few a i apart below =
-    let rs : List (List Report) = opened_report net lanes steps in
-    let told : List (List Report) = told_in_order net totals rs in
-    in_one_order net totals told (at_end net totals (found_logs lanes) steps rs told (ordered_lanes net totals lanes steps n z few a i apart below))

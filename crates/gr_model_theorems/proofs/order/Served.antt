@@ -93,7 +93,7 @@ module _ (net : Net) (n : IsNet net) (on : 1 ≤ net.quiet) (retry : 1 ≤ net.r
       )
 
 -- over logs that were found
-ordered_served : (net : Net) (totals : List ℕ) (logs : List Log) (steps : List Line) (arrivals : List Arrival) → IsNet net → IsSmall net → 1 ≤ net.quiet → 1 ≤ net.retry → AreReopened net logs → StepsIn net steps → NumbersIn steps → AllByRecursion IsOfBytes arrivals
+pub ordered_served : (net : Net) (totals : List ℕ) (logs : List Log) (steps : List Line) (arrivals : List Arrival) → IsNet net → IsSmall net → 1 ≤ net.quiet → 1 ≤ net.retry → AreReopened net logs → StepsIn net steps → NumbersIn steps → AllByRecursion IsOfBytes arrivals
     → IsDistinct totals → ((s : ℕ) → list_any (λ x. nat_eq x s) totals ≡ true → s < net.subscribers) → IsHonestRun arrivals (served net (numbers net.brokers) logs steps arrivals)
     → TotallyOrderedServed net totals logs steps arrivals (served net (numbers net.brokers) logs steps arrivals) (told_in_order net totals (served net (numbers net.brokers) logs steps arrivals))
 unfolding served_by begin_over ordered_steps
@@ -104,14 +104,6 @@ ordered_served net totals logs steps arrivals n z on retry a i m fits apart belo
     ordered_from net n on retry (WorldIn net.late) (λ u l f j k x. next_in net u l n z f j k x) (λ u x. x.frames) (λ f x. spelled_decodes (frame_bytes f) f x) totals apart (λ s here. n.subscriber s (below s here))
     arrivals o.world h (publishes_of net (numbers net.brokers) steps) (ordered next) (without_ordered next) (o.lines ∷ []) (opened_ready net logs n z a) (publishes_are_in net (numbers net.brokers) steps i m) fits honest
     (begins net totals h o.lines (begun_lines net logs o.lines)) (rested_ready next)
-
--- and over lanes, since what was cut changes no line
-pub ordered_served_lanes : (net : Net) (totals : List ℕ) (lanes : List (List Record)) (steps : List Line) (arrivals : List Arrival) → IsNet net → IsSmall net → 1 ≤ net.quiet → 1 ≤ net.retry → AllFollow net.late lanes → StepsIn net steps → NumbersIn steps
-    → AllByRecursion IsOfBytes arrivals → IsDistinct totals → ((s : ℕ) → list_any (λ x. nat_eq x s) totals ≡ true → s < net.subscribers) → IsHonestRun arrivals (served net (numbers net.brokers) (whole_logs lanes) steps arrivals)
-    → OrderedServedLanes net totals lanes steps arrivals
-ordered_served_lanes net totals lanes steps arrivals n z on retry a i m fits apart below =
-    subst (λ (rs : List (List Report)). IsHonestRun arrivals rs → TotallyOrderedServed net totals (found_logs lanes) steps arrivals rs (told_in_order net totals rs)) (sym (served_lanes (λ _. net) net net.late lanes steps arrivals a))
-    (λ honest. ordered_served net totals (found_logs lanes) steps arrivals n z on retry (are_found net lanes z.late.few a) i m fits apart below honest)
 
 -- ---- one order
 
@@ -128,14 +120,7 @@ last_arrival net totals h told left [] (r ∷ (q ∷ rs)) os k = absurd k
 last_arrival net totals h told left (a ∷ arrivals) [] os k = absurd k
 last_arrival net totals h told left (a ∷ arrivals) (r ∷ rs) [] k = absurd k
 
-at_end : (net : Net) (totals : List ℕ) (logs : List Log) (steps : List Line) (arrivals : List Arrival) (rs told : List (List Report)) → TotallyOrderedServed net totals logs steps arrivals rs told → AtEnd net totals (joined told)
+pub at_end : (net : Net) (totals : List ℕ) (logs : List Log) (steps : List Line) (arrivals : List Arrival) (rs told : List (List Report)) → TotallyOrderedServed net totals logs steps arrivals rs told → AtEnd net totals (joined told)
 at_end net totals logs steps arrivals [] told k = absurd k
 at_end net totals logs steps arrivals (r ∷ rs) [] k = absurd k
 at_end net totals logs steps arrivals (r ∷ rs) (o ∷ os) k = last_arrival net totals (begin_over net logs r) o (publishes_of net (numbers net.brokers) steps) arrivals rs os k
-
--- where each list is what it is to be, they are in one order
-pub one_order_served : (net : Net) (totals : List ℕ) (lanes : List (List Record)) (steps : List Line) (arrivals : List Arrival) → OrderedServedLanes net totals lanes steps arrivals → OneOrderServedLanes net totals lanes steps arrivals
-one_order_served net totals lanes steps arrivals k =
-    let rs : List (List Report) = served net (numbers net.brokers) (whole_logs lanes) steps arrivals in
-    let told : List (List Report) = told_in_order net totals rs in
-    in_one_order net totals told (at_end net totals (found_logs lanes) steps arrivals rs told k)

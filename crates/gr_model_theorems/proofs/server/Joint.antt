@@ -19,7 +19,7 @@ use Rattle.gr_model_calls.specs.Fits.{WorldFits, StepIn, StepsIn}
 use Rattle.gr_model_calls.proofs.topology.Strays.{start_over}
 use Rattle.gr_model_theorems.specs.Spelled.{IsInLimits, NumbersIn, IsSpelled, WorldIn}
 use Rattle.gr_model_theorems.specs.Served.{IsOfBytes, steps_at, DoesStepsAt}
-use Rattle.gr_model_theorems.specs.Joint.{brokers_of, left_of, lefts_after, joint_comes, joint_from, lefts_at_start, joint_reports, IsHonestJoint, HoldsJoint, AllDoStepsJoint}
+use Rattle.gr_model_theorems.specs.Joint.{brokers_of, left_of, lefts_after, lefts_at_start, IsHonestJoint, HoldsJoint, AllDoStepsJoint, joint_comes_by, joint_from_by, joint_end_by}
 use Rattle.gr_model_theorems.proofs.limits.Spelled.{IsSmall, next_in, start_in}
 use Rattle.gr_model_theorems.proofs.records.Recorded.{begin_lines}
 use Rattle.gr_model_theorems.proofs.sweep.FirstUnknown.{unknowns_always}
@@ -30,24 +30,35 @@ use Rattle.gr_model_theorems.proofs.headline.AfterSweeps.{holds_where_sweeps_rea
 use Rattle.gr_model_theorems.proofs.headline.SecondReaches.{sweeps_reach}
 use Rattle.gr_model_theorems.proofs.server.Serving.{AreBrokers, LeftIn, left_in, publishes_are_in, honest_at, Ready, turn, arrival_holds, steps_same}
 
+-- Processes where every call sees one net
+
+abbrev pub joint_comes : Net → List (List ℕ) → World → List (List Publish) → ℕ × Arrival → Transition
+joint_comes net = joint_comes_by (λ _. net) net
+
+abbrev pub joint_from : Net → List (List ℕ) → World → List (List Publish) → List (ℕ × Arrival) → List (List Report)
+joint_from net = joint_from_by (λ _. net) net
+
+abbrev pub joint_reports : Net → List (List ℕ) → List Line → List (ℕ × Arrival) → List (List Report)
+joint_reports net processes steps turns = joint_from net processes (start net) (lefts_at_start net processes steps) turns
+
 -- the parts of a list of lists
 
-part_of : {X : Type 0} (P : List X → Type 0) (xs : List (List X)) (k : ℕ) → P [] → AllByRecursion P xs → P (get_or xs k [])
+pub part_of : {X : Type 0} (P : List X → Type 0) (xs : List (List X)) (k : ℕ) → P [] → AllByRecursion P xs → P (get_or xs k [])
 part_of P [] k none a = none
 part_of P (x ∷ xs) zero none a = a.0
 part_of P (x ∷ xs) (suc k) none a = part_of P xs k none a.1
 
-with_part : {X : Type 0} (P : List X → Type 0) (xs : List (List X)) (k : ℕ) (x : List X) → P x → AllByRecursion P xs → AllByRecursion P (set xs k x)
+pub with_part : {X : Type 0} (P : List X → Type 0) (xs : List (List X)) (k : ℕ) (x : List X) → P x → AllByRecursion P xs → AllByRecursion P (set xs k x)
 with_part P [] k x h a = a
 with_part P (y ∷ xs) zero x h a = (h, a.1)
 with_part P (y ∷ xs) (suc k) x h a = (a.0, with_part P xs k x h a.1)
 
-lefts_in : (net : Net) (processes : List (List ℕ)) (steps : List Line) → StepsIn net steps → NumbersIn steps → AllByRecursion (LeftIn net) (lefts_at_start net processes steps)
+pub lefts_in : (net : Net) (processes : List (List ℕ)) (steps : List Line) → StepsIn net steps → NumbersIn steps → AllByRecursion (LeftIn net) (lefts_at_start net processes steps)
 lefts_in net [] steps i m = tt
 lefts_in net (hosted ∷ processes) steps i m = (publishes_are_in net hosted steps i m, lefts_in net processes steps i m)
 
 -- an honest journal is one by the lines of frames alone
-honest_same : (xs ys : List Report) (turns : List (ℕ × Arrival)) (rs : List (List Report)) → filter is_sent xs ≡ filter is_sent ys → IsHonestJoint xs turns rs → IsHonestJoint ys turns rs
+pub honest_same : (xs ys : List Report) (turns : List (ℕ × Arrival)) (rs : List (List Report)) → filter is_sent xs ≡ filter is_sent ys → IsHonestJoint xs turns rs → IsHonestJoint ys turns rs
 honest_same xs ys [] rs e h = tt
 honest_same xs ys (x ∷ turns) [] e h = h
 honest_same xs ys (x ∷ turns) (r ∷ rs) e h = (honest_at xs ys x.1 e h.0, honest_same (xs ++ r) (ys ++ r) turns rs (filter-append is_sent xs r ∙ (ap (λ (z : List Report). z ++ filter is_sent r) e ∙ sym (filter-append is_sent ys r))) h.1)
@@ -56,7 +67,7 @@ module _ (net : Net) (n : IsNet net) (on : 1 ≤ net.quiet) (retry : 1 ≤ net.r
   -- from where all stands on, the headline holds of what an honest joint journal leads to
   pub holds_joint : (turns : List (ℕ × Arrival)) (w : World) (h : History) (lefts : List (List Publish)) → Ready net P w h → AllByRecursion (LeftIn net) lefts → AllByRecursion (λ (x : ℕ × Arrival). IsOfBytes x.1) turns
       → IsHonestJoint h.lines turns (joint_from net processes w lefts turns) → HoldsJoint net processes h lefts turns (joint_from net processes w lefts turns)
-  unfolding joint_from run_from_by
+  unfolding joint_from_by run_from_by
   holds_joint [] w h lefts r l f x = holds_where_sweeps_reach net w h [] n (sweeps_reach net n on retry) on tt r.whole r.unknown
   holds_joint (x ∷ turns) w h lefts r l f honest =
       let hosted : List ℕ = brokers_of processes x.0 in
@@ -75,7 +86,7 @@ module _ (net : Net) (n : IsNet net) (on : 1 ≤ net.quiet) (retry : 1 ≤ net.r
   -- and each arrival does what its steps do
   pub all_do_joint : (turns : List (ℕ × Arrival)) (w : World) (h : History) (lefts : List (List Publish)) (lines : List Report) → Ready net P w h → AllByRecursion (LeftIn net) lefts → AllByRecursion (λ (x : ℕ × Arrival). IsOfBytes x.1) turns
       → filter is_sent h.lines ≡ filter is_sent lines → IsHonestJoint h.lines turns (joint_from net processes w lefts turns) → AllDoStepsJoint net processes w lines lefts turns
-  unfolding joint_from
+  unfolding joint_from_by
   all_do_joint [] w h lefts lines r l f e x = sym e ∙ r.whole.stands.sent
   all_do_joint (x ∷ turns) w h lefts lines r l f e honest =
       let hosted : List ℕ = brokers_of processes x.0 in
@@ -97,7 +108,7 @@ module _ (net : Net) (n : IsNet net) (on : 1 ≤ net.quiet) (retry : 1 ≤ net.r
 
 -- ---- from a start with nothing
 
-start_ready : (net : Net) → IsNet net → IsSmall net → Ready net (WorldIn net.late) (start net) (begin net)
+pub start_ready : (net : Net) → IsNet net → IsSmall net → Ready net (WorldIn net.late) (start net) (begin net)
 start_ready net n z = record {
   whole = start_whole net n;
   unknown = unknowns_always net [] n tt;
@@ -105,7 +116,7 @@ start_ready net n z = record {
   limits = start_in net z.late.few;
 }
 
-honest_begun : (net : Net) (turns : List (ℕ × Arrival)) (rs : List (List Report)) → IsHonestJoint [] turns rs → IsHonestJoint (begin net).lines turns rs
+pub honest_begun : (net : Net) (turns : List (ℕ × Arrival)) (rs : List (List Report)) → IsHonestJoint [] turns rs → IsHonestJoint (begin net).lines turns rs
 honest_begun net turns rs h = subst (λ (ls : List Report). IsHonestJoint ls turns rs) (sym (begin_lines net)) h
 
 pub headline_joint : (net : Net) (processes : List (List ℕ)) (steps : List Line) (turns : List (ℕ × Arrival)) → IsNet net → IsSmall net → 1 ≤ net.quiet → 1 ≤ net.retry → StepsIn net steps → NumbersIn steps → AllByRecursion (AreBrokers net) processes

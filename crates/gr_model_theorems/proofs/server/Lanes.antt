@@ -41,7 +41,7 @@ use Rattle.gr_model_theorems.specs.Spelled.{NumbersIn}
 use Rattle.gr_model_theorems.specs.Found.{IsReopened, AreReopened}
 use Rattle.gr_model_theorems.specs.Served.{IsOfBytes, IsHonestRun, HeadlineServed}
 use Rattle.gr_model_theorems.specs.Statements.{opened_over}
-use Rattle.gr_model_theorems.specs.Lanes.{AllFollow, whole_logs, found_logs, past_cut, DifferInCut, HoldsOverLanes, HoldsServedLanes, CutEventsSilent_by}
+use Rattle.gr_model_theorems.specs.Lanes.{AllFollow, whole_logs, found_logs, past_cut, DifferInCut, CutEventsSilent_by}
 use Rattle.gr_model_theorems.proofs.limits.Spelled.{IsSmall}
 use Rattle.gr_model_theorems.proofs.records.Recorded.{get_map}
 use Rattle.gr_model_calls.proofs.runs.Closed.{with_logs}
@@ -364,18 +364,3 @@ cut_events_silent see net late lanes a =
           let left : List Publish = publishes_of net all steps in
           subst (λ (t : Transition). DifferInCut (arrived_by see net all o.world left arrivals) (arrived_by see net all t.world left arrivals)) (sym k.is) (same_arrived see net all left arrivals o.world k.logs k.same);
     }
-
--- the headline holds of every schedule over logs that are read from records in order
-pub holds_over_lanes : (net : Net) (lanes : List (List Record)) (steps : List Line) → IsNet net → 1 ≤ net.quiet → 1 ≤ net.retry → length net.late ≤ MAX_JOINS → AllFollow net.late lanes → StepsIn net steps → HoldsOverLanes net lanes steps
-holds_over_lanes net lanes steps n z r few a i =
-    let k = opened_same (λ _. net) net net.late lanes a in
-    let founds = found_logs lanes in
-    subst (λ (ls : List Report). Holds_from net (begin_over net founds ls) steps (run_from net (opened_over net (whole_logs lanes)).world steps)) (sym (ap (λ (t : Transition). t.lines) k.is))
-    (subst (λ (rs : List (List Report)). Holds_from net (begin_over net founds (opened_over net founds).lines) steps rs) (sym (lines_same (λ _. net) net net.late lanes steps a)) (headline_over_logs net founds steps n z r (are_found net lanes few a) i))
-
--- the headline holds of every honest run of a server over logs that are read from records in order
-pub holds_served_lanes : (net : Net) (lanes : List (List Record)) (steps : List Line) (arrivals : List Arrival) → IsNet net → IsSmall net → 1 ≤ net.quiet → 1 ≤ net.retry → AllFollow net.late lanes → StepsIn net steps → NumbersIn steps → AllByRecursion IsOfBytes arrivals →
-    IsHonestRun arrivals (served net (numbers net.brokers) (whole_logs lanes) steps arrivals) → HoldsServedLanes net lanes steps arrivals
-holds_served_lanes net lanes steps arrivals n small z r a i m fits =
-    subst (λ (rs : List (List Report)). IsHonestRun arrivals rs → HeadlineServed net (found_logs lanes) steps arrivals rs) (sym (served_lanes (λ _. net) net net.late lanes steps arrivals a))
-    (λ honest. headline_served net (found_logs lanes) steps arrivals n small z r (are_found net lanes small.late.few a) i m fits honest)

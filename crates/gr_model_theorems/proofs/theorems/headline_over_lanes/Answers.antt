@@ -1,5 +1,6 @@
 use Rattle.gr_model.specs.Broker.{seen}
-use Rattle.gr_model_theorems.proofs.server.Lanes.{are_found, found_is_past, cut_events_silent, holds_over_lanes, holds_served_lanes}
+use Rattle.gr_model_theorems.proofs.server.Lanes.{are_found, found_is_past, cut_events_silent}
+use Rattle.gr_model_theorems.proofs.joins.Served.{holds_over_lanes, holds_served_lanes}
 use Rattle.gr_model_theorems.proofs.theorems.headline_over_lanes.Goals as goal
 
 pub returns-clause-schedules : goal.returns-clause-schedules

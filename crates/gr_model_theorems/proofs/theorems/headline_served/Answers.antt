@@ -1,4 +1,4 @@
-use Rattle.gr_model_theorems.proofs.server.ServedOver.{headline_served as by_arrivals, served_does}
+use Rattle.gr_model_theorems.proofs.joins.Served.{headline_served as by_arrivals, served_does}
 use Rattle.gr_model_theorems.proofs.theorems.headline_served.Goals as goal
 
 pub returns-clause-headline : goal.returns-clause-headline

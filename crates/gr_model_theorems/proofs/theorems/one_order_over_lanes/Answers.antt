@@ -1,9 +1,9 @@
-use Rattle.gr_model_theorems.proofs.order.OverLogs.{one_order_lanes}
-use Rattle.gr_model_theorems.proofs.order.Served.{ordered_served_lanes, one_order_served}
+use Rattle.gr_model_theorems.proofs.joins.Served.{ordered_lanes, ordered_served_lanes, one_order_lanes, one_order_served}
 use Rattle.gr_model_theorems.proofs.theorems.one_order_over_lanes.Goals as goal
 
 pub returns-clause-schedules : goal.returns-clause-schedules
-returns-clause-schedules c = λ net totals lanes steps r a. one_order_lanes net totals lanes steps r.asked.tree r.asked.quiet r.few r.follow r.asked.steps_in a.apart a.there
+returns-clause-schedules c = λ net totals lanes steps r a.
+    one_order_lanes net totals lanes steps (ordered_lanes net totals lanes steps r.asked.tree r.asked.quiet r.few r.follow r.asked.steps_in a.apart a.there)
 
 pub returns-clause-served : goal.returns-clause-served
 returns-clause-served c = λ net totals lanes steps arrivals r a.

@@ -1,5 +1,4 @@
-use Rattle.gr_model_theorems.proofs.order.OverLogs.{ordered_lanes}
-use Rattle.gr_model_theorems.proofs.order.Served.{ordered_served_lanes}
+use Rattle.gr_model_theorems.proofs.joins.Served.{ordered_lanes, ordered_served_lanes}
 use Rattle.gr_model_theorems.proofs.theorems.ordered_over_lanes.Goals as goal
 
 pub returns-clause-schedules : goal.returns-clause-schedules

@@ -1,5 +1,5 @@
 use Rattle.gr_model_theorems.proofs.joins.Always.{schedule_by_rules, schedule_once}
-use Rattle.gr_model_theorems.proofs.server.OpensByRules.{over_by_rules, over_once}
+use Rattle.gr_model_theorems.proofs.joins.Over.{over_by_rules, over_once}
 use Rattle.gr_model_theorems.proofs.theorems.runs_by_rules.Goals as goal
 
 pub returns-clause-allowed : goal.returns-clause-allowed
@@ -12,4 +12,4 @@ pub returns-clause-over_logs : goal.returns-clause-over_logs
 returns-clause-over_logs c = λ net logs steps r a. over_by_rules net logs steps r.tree r.quiet a r.steps_in
 
 pub returns-clause-over_logs_alone : goal.returns-clause-over_logs_alone
-returns-clause-over_logs_alone c = λ net logs steps r a told rs w o. over_once net logs steps told rs w r.tree r.quiet a r.steps_in o
+returns-clause-over_logs_alone c = λ net logs steps r a told rs w o. over_once net logs steps r.tree r.quiet a r.steps_in told rs w o

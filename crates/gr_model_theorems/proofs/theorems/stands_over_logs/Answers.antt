@@ -1,5 +1,8 @@
-use Rattle.gr_model_theorems.proofs.server.OpenedFits.{stands_over_logs as by_steps}
+use Rattle.gr_model_theorems.proofs.joins.Over.{over_stands, runs_as_one}
 use Rattle.gr_model_theorems.proofs.theorems.stands_over_logs.Goals as goal
 
-pub returns : goal.returns
-returns c = λ net logs steps r. by_steps net logs steps r.asked.tree r.asked.quiet r.asked.retry r.reopened_cuts r.asked.steps_in
+pub returns-clause-stands : goal.returns-clause-stands
+returns-clause-stands c = λ net logs steps r. over_stands net logs steps r.asked.tree r.asked.quiet r.asked.retry r.reopened_cuts r.asked.steps_in
+
+pub returns-clause-same : goal.returns-clause-same
+returns-clause-same c = λ net logs steps r. runs_as_one net logs steps r.asked.tree r.reopened_cuts r.asked.steps_in
