@@ -6,3 +6,4 @@ pub mod Over
 pub mod Serving
 pub mod Served
 pub mod Joint
+pub mod Late

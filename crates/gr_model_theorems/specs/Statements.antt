@@ -1,8 +1,9 @@
 -- What the theorems speak of, and what they say of it
 use Rattle.std.specs.Prelude.{◌≡◌, ℕ, ◌≤◌, ◌<◌, ◌^◌, true, false, nat_eq, List, [], map, filter, flat_map, Option, Some}
-use Rattle.std.specs.Prelude.{Ok}
+use Rattle.std.specs.Prelude.{Ok, None}
 use Rattle.std.specs.List.{AllByRecursion, list_any}
-use Rattle.gr_event.specs.Joins.{splits, Joins}
+use Rattle.gr_event.specs.declared.event.Event.{Event}
+use Rattle.gr_event.specs.Joins.{splits, tick_of, Joins}
 use Rattle.gr_frame.specs.declared.Body.TheVariants as body
 use Rattle.gr_frame.specs.declared.Frame.{Frame}
 use Rattle.gr_frame.specs.Bytes.{frame_bytes}
@@ -11,7 +12,7 @@ use Rattle.gr_frame.specs.Limits.{IsFrame}
 use Rattle.gr_know.specs.Values.{Known}
 use Rattle.gr_sched.specs.declared.step.Line.{Line}
 use Rattle.gr_model.specs.declared.report.Report.{Report}
-use Rattle.gr_model.specs.Net.{Net, not_empty, numbers}
+use Rattle.gr_model.specs.Net.{Net, is_late, not_empty, numbers}
 use Rattle.gr_model.specs.Tree.{IsNet, IsSubscriber, IsDistinct}
 use Rattle.gr_model.specs.Broker.{Log, clashes}
 use Rattle.gr_model.specs.World.{World, Transition, view_of, log_of, frame_at, start, run_all, run_from, next, sweep}
@@ -19,7 +20,8 @@ use Rattle.gr_model_calls.specs.OneNet.{last_net}
 use Rattle.gr_model_calls.specs.OneNet as one
 use Rattle.gr_model.specs.Opening.{opening, publishers_at, begin_over}
 use Rattle.gr_model.specs.Arrivals.{served, arrived, Arrival, publishes_of, clash_runs, first_of}
-use Rattle.gr_model.specs.Headline.{History, GetsExactly, Holds_from, recorded_net, is_doubt_line, doubt_place, doubts_shown}
+use Rattle.gr_model.specs.Headline.{History, record_of, delivered_events, last_horizon, GetsExactly, Holds_from, recorded_net, is_doubt_line, doubt_place, doubts_shown}
+use Rattle.gr_model_calls.specs.Said.{due_between}
 use Rattle.gr_model_calls.specs.Fits.{StepsIn}
 use Rattle.gr_model_theorems.specs.Order.{CutsInOrder}
 use Rattle.gr_model_calls.specs.Edges.{GoesOverEdge}
@@ -122,6 +124,17 @@ AllDecode w = (k : ℕ) (f : Frame) → frame_at w k ≡ Some f → frame_decode
 -- each subscriber gets of each publisher exactly what it is owed, by the joins that are recorded
 abbrev pub AllGetExactly : Net → History → Type 0
 AllGetExactly net h = (s p : ℕ) → p < net.publishers → IsSubscriber net s → GetsExactly (recorded_net net h) h s p
+
+-- what a late subscriber is to have of these events: nothing while it has not joined, and then those past its join
+abbrev pub due_late : Net → ℕ → ℕ → ℕ → List (ℕ × Event) → Option ℕ → List (ℕ × Event)
+due_late net p s n events None = []
+due_late net p s n events (Some joined) = due_between net p s joined n events
+
+-- each late subscriber got that of each publisher up to its last horizon, by the join that is recorded
+abbrev pub LateGetExactly : Net → History → Type 0
+LateGetExactly net h =
+    (s p : ℕ) → p < net.publishers → IsSubscriber net s → is_late net s ≡ true → delivered_events s p h.lines
+    ≡ due_late net p s (last_horizon s p 0 h.lines) (record_of h p).events (tick_of (record_of h p).joined s)
 
 -- each publisher's cuts are in order
 abbrev pub AllCutsInOrder : Net → History → Type 0

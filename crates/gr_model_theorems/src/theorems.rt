@@ -1,5 +1,10 @@
 //! What holds of every schedule of the machine, on every topology that is a tree. Each function here does nothing: its
 //! contract is the theorem. The premises, and most of what is said, stand in `specs/Statements.antt`.
+//!
+//! In a run each call sees whom an event concerns by the joins that its broker holds. Every run is the run of all calls
+//! on one net, in which a late subscriber wants what is past its join: by the joins that the logs have in the end. The
+//! headline speaks of the joins recorded so far; where a theorem speaks of one net, it is `joined_net`, or `over_net`,
+//! `served_net` and `joint_net` where logs were found, at a server and of several processes.
 
 ghost use Rattle.std.specs.Prelude.{List, [], ℕ, false, Some, None, ◌≡◌, ◌<◌, ◌≤◌, length};
 ghost use Rattle.gr_event.specs.declared.limits.TheConstants.{MAX_JOINS};
@@ -28,8 +33,8 @@ ghost use Rattle.gr_model_theorems.specs.Settles.{SweepSettles, AllGot};
 ghost use Rattle.gr_model_theorems.specs.Standing.{Fits};
 ghost use Rattle.gr_model_theorems.specs.OverLogs.{StandsOver};
 ghost use Rattle.gr_publog.specs.declared.record.Record.{Record};
-ghost use Rattle.gr_model_theorems.specs.Lanes.{AllFollow, IsRunOverLanes, IsServedOverLanes, found_logs, FoundIsPastCut};
-ghost use Rattle.gr_model_theorems.specs.Lanes.{HoldsOverLanes, HoldsServedLanes, CutEventsSilent};
+ghost use Rattle.gr_model_theorems.specs.Lanes.{AllFollow, IsRunOverLanes, IsServedOverLanes, found_logs};
+ghost use Rattle.gr_model_theorems.specs.Lanes.{FoundIsPastCut, HoldsOverLanes, HoldsServedLanes, CutEventsSilent};
 ghost use Rattle.gr_model_theorems.specs.OrderedServed.{OrderedOverLanes, OneOrderOverLanes};
 ghost use Rattle.gr_model_theorems.specs.OrderedServed.{OrderedServedLanes, OneOrderServedLanes};
 ghost use Rattle.gr_model_theorems.specs.Joint.{IsJointRun, HoldsJoint, AllDoStepsJoint, joint_reports, lefts_at_start};
@@ -38,13 +43,14 @@ ghost use Rattle.gr_model_theorems.specs.Examples.{WorkedExamples};
 ghost use Rattle.gr_model_theorems.specs.ServedExample.{ServedExamples};
 ghost use Rattle.gr_model.specs.Orders.{orders_over, ordered_steps};
 ghost use Rattle.gr_model.specs.Ordered.{OneOrder, TotallyOrdered};
-ghost use Rattle.gr_model_theorems.specs.Statements.{IsRun, IsMarkedRun, IsAskedRun, IsSweptRun, IsSpelledRun, IsRunOverLogs};
-ghost use Rattle.gr_model_theorems.specs.Statements.{AreTotals};
-ghost use Rattle.gr_model_theorems.specs.Statements.{IsServedRun, world_after, NothingClashes, NothingStrays};
-ghost use Rattle.gr_model_theorems.specs.Statements.{NothingSplits, AllSpelled, joined_net, SweepsAsOne, over_net, RunsOverAsOne};
-ghost use Rattle.gr_model_theorems.specs.Statements.{AllDecode, AllGetExactly, AllCutsInOrder, HostsMeet, DoubtsStand};
-ghost use Rattle.gr_model_theorems.specs.Statements.{HoldsOverLogs, OpeningTells, OpeningSendsNothing, RunsOverByRules};
-ghost use Rattle.gr_model_theorems.specs.Statements.{RunsOverByNoOther, MeetsHeadlineServed, ArrivalsDoSteps, FirstClash};
+ghost use Rattle.gr_model_theorems.specs.Statements.{IsRun, IsMarkedRun, IsAskedRun, IsSweptRun, IsSpelledRun};
+ghost use Rattle.gr_model_theorems.specs.Statements.{IsRunOverLogs, AreTotals, IsServedRun, world_after};
+ghost use Rattle.gr_model_theorems.specs.Statements.{NothingClashes, NothingStrays, NothingSplits, AllSpelled};
+ghost use Rattle.gr_model_theorems.specs.Statements.{joined_net, SweepsAsOne, over_net, RunsOverAsOne, AllDecode};
+ghost use Rattle.gr_model_theorems.specs.Statements.{AllGetExactly, LateGetExactly, AllCutsInOrder, HostsMeet};
+ghost use Rattle.gr_model_theorems.specs.Statements.{DoubtsStand, HoldsOverLogs, OpeningTells, OpeningSendsNothing};
+ghost use Rattle.gr_model_theorems.specs.Statements.{RunsOverByRules, RunsOverByNoOther, MeetsHeadlineServed};
+ghost use Rattle.gr_model_theorems.specs.Statements.{ArrivalsDoSteps, FirstClash};
 
 /// The topology of the small examples is a tree, so the theorems speak of something.
 pub fn net0_is_a_tree()
@@ -56,8 +62,9 @@ pub fn worked_examples()
     ensures { WorkedExamples }
 {}
 
-/// After every schedule all that any broker knows, all that any frame says and all that was cut is true, and each
-/// host knows every tick up to where its log is settled.
+/// After every schedule all that any broker knows, all that any frame says and all that was cut is true, each host
+/// knows every tick up to where its log is settled and holds the joins of its log, and each list of joins that is held
+/// or was sent is a front of these.
 pub fn always_true()
     ensures { (net : Net) (steps : List Line) → IsRun net steps →
         WorldFits (joined_net net steps) (world_after net steps) }
@@ -90,6 +97,12 @@ pub fn gets_exactly()
     ensures { (net : Net) (steps : List Line) → IsMarkedRun net steps → AllGetExactly net (history_of net steps) }
 {}
 
+/// Late subscribers: over every schedule, what one got from a publisher is exactly the logged events past its join that
+/// its filter matches, up to its last horizon, once each and in order; and while it has not joined, nothing.
+pub fn late_gets_past_its_join()
+    ensures { (net : Net) (steps : List Line) → IsMarkedRun net steps → LateGetExactly net (history_of net steps) }
+{}
+
 /// Discarded only after delivery: over every schedule, a publisher's cuts rise strictly, none is past what is settled,
 /// and each event up to a cut was got, before that cut's line, by each subscriber that wants it.
 pub fn cuts_in_order()
@@ -116,7 +129,7 @@ pub fn frames_sent()
 
 /// Every call follows the rules: over every schedule, each step's lines are those of its calls of brokers, in order,
 /// and then its own; and what each call keeps, tells and sends, and to whom, is what the rules say tick by tick of the
-/// broker's view and the publisher's log at that moment.
+/// broker's view and the publisher's log at that moment, on the net of the joins that the logs have in the end.
 pub fn calls_obey_rules()
     ensures { (net : Net) (steps : List Line) → IsMarkedRun net steps →
         CallsObey (joined_net net steps) steps (report_of net steps) }
@@ -127,10 +140,10 @@ pub fn rules_determine()
     ensures { (net : Net) (p b : ℕ) → IsNet net → p < net.publishers → b < net.brokers → RulesDetermine net p b }
 {}
 
-/// Of every schedule the rules allow exactly one report and leave exactly one world, the machine's. What happens at a
-/// step is said by the rules alone: its calls in their order, each with the outcome of its rule put in its place;
-/// starts and crashes, stopped publishes, sweeps, what is refused and what is shown; and the lines of all this in their
-/// order.
+/// Of every schedule the rules allow exactly one report and leave exactly one world, the machine's: no other report, by
+/// whatever joins its own logs have in the end. What happens at a step is said by the rules alone: its calls in their
+/// order, each with the outcome of its rule put in its place; starts and crashes, stopped publishes, sweeps, what is
+/// refused and what is shown; and the lines of all this in their order.
 /// The same of a schedule that begins on logs that were found, and of what the start over them tells.
 pub fn runs_by_rules()
     ensures allowed { (net : Net) (steps : List Line) → IsMarkedRun net steps →
@@ -166,8 +179,9 @@ pub fn ordered_always()
 {}
 
 /// One order among subscribers: over every schedule, of two subscribers that get one list over all publishers and want
-/// the same, what one was told in it up to any step begins with what the other was told up to any step, or the other
-/// way round. So no two of them are ever told events in different orders.
+/// the same, late ones by the joins that they have in the end, what one was told in it up to any step begins with what
+/// the other was told up to any step, or the other way round. So no two of them are ever told events in different
+/// orders.
 pub fn one_order_always()
     ensures { (net : Net) (totals : List ℕ) (steps : List Line) → IsAskedRun net steps → AreTotals net totals →
         OneOrder (joined_net net steps) totals
@@ -176,7 +190,7 @@ pub fn one_order_always()
 
 /// A sweep settles everything: after every schedule, a sweep that is not refused ends with every kept horizon, what is
 /// settled of every log, and every cut at its moment; each frame that it sends but an Expect is delivered in it exactly
-/// once; and its lines say so.
+/// once; and its lines say so. It is the sweep on the net of the joins so far, since it joins no one.
 pub fn sweep_settles()
     ensures settles { (net : Net) (steps : List Line) (k : ℕ) → IsSweptRun net steps →
         SweepSettles (joined_net net steps) (world_after net steps) k }
@@ -199,7 +213,7 @@ pub fn fits_always()
 
 /// The same of every schedule that begins on logs that were found; and its calls obey their rules, its steps are
 /// replied as they are to be, nothing that was sent clashes, and a sweep settles everything and hands over all that is
-/// recorded.
+/// recorded. Its opening, its lines and the world that it leaves are those on `over_net`.
 pub fn stands_over_logs()
     ensures stands { (net : Net) (logs : List Log) (steps : List Line) → IsRunOverLogs net logs steps →
         StandsOver (over_net net logs steps) logs steps }
