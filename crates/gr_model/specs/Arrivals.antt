@@ -27,7 +27,7 @@ use Rattle.gr_model.specs.declared.report.Report.TheVariants as line
 use Rattle.gr_model.specs.Net.{Net, all_late, keeps_horizon, numbers}
 use Rattle.gr_model.specs.Broker.{View, Log, max_tick, seen}
 use Rattle.gr_model.specs.World.{World, Transition, view_of, log_of, unchanged, followed_by, in_turn, deliver_frame}
-use Rattle.gr_model.specs.World.{publish_now, wake_all, kept_events, deliver_frame_by, publish_now_by, wake_all_by}
+use Rattle.gr_model.specs.World.{kept_events, deliver_frame_by, publish_now_by, wake_all_by, join_now_by}
 use Rattle.gr_model.specs.Opening.{opening, opening_by}
 
 -- What comes
@@ -37,9 +37,14 @@ pub data Arrival : Type 0 where
   datagram : ℕ → List ℕ → ℕ → Arrival
   quiet : ℕ → Arrival
 
--- a publish that a schedule asks for: the publisher, the number, the event
+-- a publish that a note submits: the publisher, the number, the event
 abbrev pub Publish : Type 0
 Publish = ℕ × (ℕ × Event)
+
+-- what a schedule asks for: a publish by its publisher, number and event, or a join by its subscriber and publisher
+pub data Request : Type 0 where
+  asks_publish : ℕ → ℕ → Event → Request
+  asks_join : ℕ → ℕ → Request
 
 -- the publisher is at one of the hosted brokers
 abbrev pub is_hosted : Net → List ℕ → ℕ → Bool
@@ -49,20 +54,20 @@ is_hosted net hosted p = list_any (λ b. nat_eq b (net.host p)) hosted
 abbrev pub is_scheduled : Net → List ℕ → ℕ → Bool
 is_scheduled net hosted p = is_hosted net hosted p && not (net.client p)
 
--- The publishes of a schedule whose publisher is at one of the hosted brokers and has no client, in order. A stop is
--- left aside, and so are all other steps
-abbrev pub publishes_in : Net → List ℕ → Line → List Publish
-publishes_in net hosted l = elim l.step [
-  | step.Publish p number stop e ↦ if is_scheduled net hosted p
-      then (p, (number, e)) ∷ [] else []
+-- The publishes of a schedule whose publisher is at one of the hosted brokers and has no client, and the joins whose
+-- publisher is at one of them, in order. A stop is left aside, and so are all other steps
+abbrev pub requests_in : Net → List ℕ → Line → List Request
+requests_in net hosted l = elim l.step [
+  | step.Publish p number stop e ↦ if is_scheduled net hosted p then asks_publish p number e ∷ [] else []
+  | step.Join s p ↦ if is_hosted net hosted p then asks_join s p ∷ [] else []
   | _ ↦ []
 ]
 
-abbrev pub publishes_of : Net → List ℕ → List Line → List Publish
-publishes_of net hosted steps = flat_map (publishes_in net hosted) steps
+abbrev pub requests_of : Net → List ℕ → List Line → List Request
+requests_of net hosted steps = flat_map (requests_in net hosted) steps
 
--- a quiet moment takes the first publish that is left
-abbrev pub left_after : List Publish → Arrival → List Publish
+-- a quiet moment takes the first request that is left
+abbrev pub left_after : List Request → Arrival → List Request
 left_after left (datagram b bytes moment) = left
 left_after [] (quiet moment) = []
 left_after (x ∷ left) (quiet moment) = left
@@ -189,29 +194,30 @@ reads_by see net w b bytes =
 abbrev pub reads : Net → World → ℕ → List ℕ → Transition
 reads net = reads_by (seen net) net
 
--- A quiet moment: the first publish that is left, and then each hosted broker is woken for each publisher
+-- A quiet moment: the first request that is left, and then each hosted broker is woken for each publisher
 
-abbrev pub published_first_by : (View → Net) → Net → World → List Publish → Transition
-published_first_by see net w [] = unchanged w []
-published_first_by see net w (x ∷ left) = publish_now_by see net w x.0 x.1.0 x.1.1
+abbrev pub answered_first_by : (View → Net) → Net → World → List Request → Transition
+answered_first_by see net w [] = unchanged w []
+answered_first_by see net w (asks_publish p number e ∷ left) = publish_now_by see net w p number e
+answered_first_by see net w (asks_join s p ∷ left) = join_now_by see net w s p
 
-abbrev pub published_first : Net → World → List Publish → Transition
-published_first net = published_first_by (seen net) net
+abbrev pub answered_first : Net → World → List Request → Transition
+answered_first net = answered_first_by (seen net) net
 
-unfoldable pub quieted_by : (View → Net) → Net → List ℕ → World → List Publish → Transition
+unfoldable pub quieted_by : (View → Net) → Net → List ℕ → World → List Request → Transition
 quieted_by see net hosted w left =
-    followed_by (published_first_by see net w left) (in_turn (wake_all_by see net) hosted)
+    followed_by (answered_first_by see net w left) (in_turn (wake_all_by see net) hosted)
 
-abbrev pub quieted : Net → List ℕ → World → List Publish → Transition
+abbrev pub quieted : Net → List ℕ → World → List Request → Transition
 quieted net = quieted_by (seen net) net
 
 -- The run
 
-unfoldable pub comes_by : (View → Net) → Net → List ℕ → World → List Publish → Arrival → Transition
+unfoldable pub comes_by : (View → Net) → Net → List ℕ → World → List Request → Arrival → Transition
 comes_by see net hosted w left (datagram b bytes moment) = reads_by see net (at_moment w moment) b bytes
 comes_by see net hosted w left (quiet moment) = quieted_by see net hosted (at_moment w moment) left
 
-abbrev pub comes : Net → List ℕ → World → List Publish → Arrival → Transition
+abbrev pub comes : Net → List ℕ → World → List Request → Arrival → Transition
 comes net = comes_by (seen net) net
 
 -- what is shown at the end, of the hosted brokers and publishers
@@ -224,28 +230,28 @@ show_hosted net hosted w =
     else []) (numbers net.publishers)) hosted)
 
 -- the lines of each arrival, and then what is shown
-unfoldable pub served_from_by : (View → Net) → Net → List ℕ → World → List Publish → List Arrival → List (List Report)
+unfoldable pub served_from_by : (View → Net) → Net → List ℕ → World → List Request → List Arrival → List (List Report)
 served_from_by see net hosted w left [] = show_hosted net hosted w ∷ []
 served_from_by see net hosted w left (a ∷ arrivals) = let t = comes_by see net hosted w left a in
     t.lines ∷ served_from_by see net hosted t.world (left_after left a) arrivals
 
-abbrev pub served_from : Net → List ℕ → World → List Publish → List Arrival → List (List Report)
+abbrev pub served_from : Net → List ℕ → World → List Request → List Arrival → List (List Report)
 served_from net = served_from_by (seen net) net
 
 -- the world after arrivals: its frames are what was offered to the network, in order, and its logs what the lanes hold
-unfoldable pub arrived_by : (View → Net) → Net → List ℕ → World → List Publish → List Arrival → World
+unfoldable pub arrived_by : (View → Net) → Net → List ℕ → World → List Request → List Arrival → World
 arrived_by see net hosted w left [] = w
 arrived_by see net hosted w left (a ∷ arrivals) = let t = comes_by see net hosted w left a in
     arrived_by see net hosted t.world (left_after left a) arrivals
 
-abbrev pub arrived : Net → List ℕ → World → List Publish → List Arrival → World
+abbrev pub arrived : Net → List ℕ → World → List Request → List Arrival → World
 arrived net = arrived_by (seen net) net
 
 -- A run over a journal: the opening, then each arrival in turn, then what is shown. The hosted brokers are given in
 -- rising order; of a publisher that is not hosted no log is looked at; and the journal ends with the list
 unfoldable pub served_by : (View → Net) → Net → List ℕ → List Log → List Line → List Arrival → List (List Report)
 served_by see net hosted logs steps arrivals = let o = opening_by see net hosted logs in
-    o.lines ∷ served_from_by see net hosted o.world (publishes_of net hosted steps) arrivals
+    o.lines ∷ served_from_by see net hosted o.world (requests_of net hosted steps) arrivals
 
 abbrev pub served : Net → List ℕ → List Log → List Line → List Arrival → List (List Report)
 served net = served_by (seen net) net

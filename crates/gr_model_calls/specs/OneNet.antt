@@ -14,7 +14,7 @@ use Rattle.gr_model.specs.World.{World, Transition, log_of, start, wake_for_by, 
 use Rattle.gr_model.specs.World.{publish_stopped_by, deliver_up_by, wake_up_by, hand_down_by, sweep_for_by, sweep_by}
 use Rattle.gr_model.specs.World.{next_by, run_from_by, report_of_by, run_all_by}
 use Rattle.gr_model.specs.Opening.{opened_for_by, opening_by}
-use Rattle.gr_model.specs.Arrivals.{Arrival, Publish, takes_by, receives_by, notes_by, reads_by, published_first_by}
+use Rattle.gr_model.specs.Arrivals.{Arrival, takes_by, receives_by, notes_by, reads_by, answered_first_by, Request}
 use Rattle.gr_model.specs.Arrivals.{quieted_by, comes_by, served_from_by, arrived_by, served_by}
 use Rattle.gr_model.specs.Headline.{History, begin, history, Holds_from_by}
 use Rattle.gr_model.specs.Ordered.{IsOrdered_by, TotallyOrdered_from_by}
@@ -86,19 +86,19 @@ notes net = notes_by (λ _. net) net
 abbrev pub reads : Net → World → ℕ → List ℕ → Transition
 reads net = reads_by (λ _. net) net
 
-abbrev pub published_first : Net → World → List Publish → Transition
-published_first net = published_first_by (λ _. net) net
+abbrev pub answered_first : Net → World → List Request → Transition
+answered_first net = answered_first_by (λ _. net) net
 
-abbrev pub quieted : Net → List ℕ → World → List Publish → Transition
+abbrev pub quieted : Net → List ℕ → World → List Request → Transition
 quieted net = quieted_by (λ _. net) net
 
-abbrev pub comes : Net → List ℕ → World → List Publish → Arrival → Transition
+abbrev pub comes : Net → List ℕ → World → List Request → Arrival → Transition
 comes net = comes_by (λ _. net) net
 
-abbrev pub served_from : Net → List ℕ → World → List Publish → List Arrival → List (List Report)
+abbrev pub served_from : Net → List ℕ → World → List Request → List Arrival → List (List Report)
 served_from net = served_from_by (λ _. net) net
 
-abbrev pub arrived : Net → List ℕ → World → List Publish → List Arrival → World
+abbrev pub arrived : Net → List ℕ → World → List Request → List Arrival → World
 arrived net = arrived_by (λ _. net) net
 
 abbrev pub served : Net → List ℕ → List Log → List Line → List Arrival → List (List Report)

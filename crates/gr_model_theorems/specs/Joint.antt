@@ -7,7 +7,7 @@ use Rattle.gr_model.specs.Net.{Net}
 use Rattle.gr_model.specs.Broker.{View, seen}
 use Rattle.gr_model.specs.World.{World, Transition, start, sent_lines}
 use Rattle.gr_model.specs.Headline.{History, Delivered, InOrder, is_sent}
-use Rattle.gr_model.specs.Arrivals.{Arrival, Publish, publishes_of, left_after, comes_by}
+use Rattle.gr_model.specs.Arrivals.{Arrival, requests_of, left_after, comes_by, Request}
 use Rattle.gr_model_calls.specs.OneNet.{last_net}
 use Rattle.gr_model_theorems.specs.Spelled.{LateIn, NumbersIn}
 use Rattle.gr_model_theorems.specs.Statements.{IsAskedRun}
@@ -19,34 +19,34 @@ use Rattle.gr_model_theorems.specs.Served.{IsOfBytes, IsHonestAt, steps_at, Does
 abbrev pub brokers_of : List (List ℕ) → ℕ → List ℕ
 brokers_of processes k = get_or processes k []
 
-abbrev pub left_of : List (List Publish) → ℕ → List Publish
+abbrev pub left_of : List (List Request) → ℕ → List Request
 left_of lefts k = get_or lefts k []
 
 -- what is left to each once an arrival has come to one
-abbrev pub lefts_after : List (List Publish) → ℕ × Arrival → List (List Publish)
+abbrev pub lefts_after : List (List Request) → ℕ × Arrival → List (List Request)
 lefts_after lefts x = set lefts x.0 (left_after (left_of lefts x.0) x.1)
 
 -- an arrival at the brokers of its process, where each call sees a net of its view
-abbrev pub joint_comes_by : (View → Net) → Net → List (List ℕ) → World → List (List Publish) → ℕ × Arrival
+abbrev pub joint_comes_by : (View → Net) → Net → List (List ℕ) → World → List (List Request) → ℕ × Arrival
     → Transition
 joint_comes_by see net processes w lefts x = comes_by see net (brokers_of processes x.0) w (left_of lefts x.0) x.1
 
 -- the lines of each arrival, and the world in the end
-unfoldable pub joint_from_by : (View → Net) → Net → List (List ℕ) → World → List (List Publish) → List (ℕ × Arrival)
+unfoldable pub joint_from_by : (View → Net) → Net → List (List ℕ) → World → List (List Request) → List (ℕ × Arrival)
     → List (List Report)
 joint_from_by see net processes w lefts [] = []
 joint_from_by see net processes w lefts (x ∷ turns) = let t = joint_comes_by see net processes w lefts x in
     t.lines ∷ joint_from_by see net processes t.world (lefts_after lefts x) turns
 
-unfoldable pub joint_end_by : (View → Net) → Net → List (List ℕ) → World → List (List Publish) → List (ℕ × Arrival)
+unfoldable pub joint_end_by : (View → Net) → Net → List (List ℕ) → World → List (List Request) → List (ℕ × Arrival)
     → World
 joint_end_by see net processes w lefts [] = w
 joint_end_by see net processes w lefts (x ∷ turns) = let t = joint_comes_by see net processes w lefts x in
     joint_end_by see net processes t.world (lefts_after lefts x) turns
 
--- what each process is to publish
-abbrev pub lefts_at_start : Net → List (List ℕ) → List Line → List (List Publish)
-lefts_at_start net processes steps = map (λ hosted. publishes_of net hosted steps) processes
+-- what a schedule asks of each process
+abbrev pub lefts_at_start : Net → List (List ℕ) → List Line → List (List Request)
+lefts_at_start net processes steps = map (λ hosted. requests_of net hosted steps) processes
 
 -- the lines of a run that begins with nothing
 abbrev pub joint_reports : Net → List (List ℕ) → List Line → List (ℕ × Arrival) → List (List Report)
@@ -84,7 +84,7 @@ pub record IsJointRun (net : Net) (processes : List (List ℕ)) (steps : List Li
   pub honest : IsHonestJoint [] turns (joint_reports net processes steps turns)
 
 -- of each arrival the headline holds, as of its steps of a schedule
-abbrev pub HoldsJoint : Net → List (List ℕ) → History → List (List Publish) → List (ℕ × Arrival) → List (List Report)
+abbrev pub HoldsJoint : Net → List (List ℕ) → History → List (List Request) → List (ℕ × Arrival) → List (List Report)
     → Type 0
 HoldsJoint net processes h lefts [] [] = Delivered net h × InOrder net h
 HoldsJoint net processes h lefts [] (r ∷ rs) = ⊥
@@ -94,7 +94,7 @@ HoldsJoint net processes h lefts (x ∷ turns) (r ∷ rs) =
     (λ g. HoldsJoint net processes g (lefts_after lefts x) turns rs)
 
 -- and each leaves what its steps leave, by the rules; the lines of frames tell all frames, numbered 1, 2, 3 and so on
-abbrev pub AllDoStepsJoint : Net → List (List ℕ) → World → List Report → List (List Publish) → List (ℕ × Arrival)
+abbrev pub AllDoStepsJoint : Net → List (List ℕ) → World → List Report → List (List Request) → List (ℕ × Arrival)
     → Type 0
 AllDoStepsJoint net processes w lines lefts [] = filter is_sent lines ≡ sent_lines 1 w.frames
 AllDoStepsJoint net processes w lines lefts (x ∷ turns) =

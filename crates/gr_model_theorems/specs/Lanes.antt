@@ -12,7 +12,7 @@ use Rattle.gr_model.specs.Broker.{View, Log, seen}
 use Rattle.gr_model.specs.World.{World, Transition, run_all_by, run_from_by}
 use Rattle.gr_model.specs.Opening.{begin_over, opening_by}
 use Rattle.gr_model.specs.Headline.{Holds_from}
-use Rattle.gr_model.specs.Arrivals.{Arrival, publishes_of, served, served_by, arrived_by}
+use Rattle.gr_model.specs.Arrivals.{Arrival, requests_of, served, served_by, arrived_by}
 use Rattle.gr_model_theorems.specs.Spelled.{LateIn, NumbersIn}
 use Rattle.gr_model_theorems.specs.Statements.{IsAskedRun, started_over, lines_over, served_net}
 use Rattle.gr_event.specs.declared.limits.TheConstants.{MAX_JOINS}
@@ -63,7 +63,7 @@ opened_by see net logs = opening_by see net (numbers net.brokers) logs
 abbrev pub served_on : (View → Net) → Net → List Log → List Line → List Arrival → World
 served_on see net logs steps arrivals =
     arrived_by see net (numbers net.brokers) (opened_by see net logs).world
-    (publishes_of net (numbers net.brokers) steps) arrivals
+    (requests_of net (numbers net.brokers) steps) arrivals
 
 -- a run over lanes, in which the late subscribers may have joined
 pub record IsRunOverLanes (net : Net) (lanes : List (List Record)) (steps : List Line) : Type 0 where

@@ -7,7 +7,7 @@ use Rattle.gr_model.specs.Net.{Net, numbers}
 use Rattle.gr_model.specs.Broker.{Log}
 use Rattle.gr_model.specs.World.{Transition}
 use Rattle.gr_model.specs.Opening.{begin_over}
-use Rattle.gr_model.specs.Arrivals.{Arrival, Publish, publishes_of, left_after, served}
+use Rattle.gr_model.specs.Arrivals.{Arrival, requests_of, left_after, served, Request}
 use Rattle.gr_model_calls.specs.OneNet.{IsOrdered, TotallyOrdered_from}
 use Rattle.gr_model.specs.Headline.{History}
 use Rattle.gr_model.specs.Orders.{orders_over, ordered_steps}
@@ -50,7 +50,7 @@ OneOrderOverLanes net totals lanes steps =
 
 -- Each of these subscribers was told exactly what all publishers have up to where it has heard them all: before each
 -- arrival, and at the end, where no more is told. The history is that of the headline, which holds of each arrival
-abbrev pub OrderedServed_from : Net → List ℕ → History → List Report → List Publish → List Arrival
+abbrev pub OrderedServed_from : Net → List ℕ → History → List Report → List Request → List Arrival
     → List (List Report) → List (List Report) → Type 0
 OrderedServed_from net totals h told left [] (r ∷ []) (o ∷ []) = IsOrdered net totals h told × (o ≡ [])
 OrderedServed_from net totals h told left (a ∷ arrivals) (r ∷ rs) (o ∷ os) = IsOrdered net totals h told
@@ -62,7 +62,7 @@ OrderedServed_from net totals h told left _ _ _ = ⊥
 abbrev pub TotallyOrderedServed : Net → List ℕ → List Log → List Line → List Arrival → List (List Report)
     → List (List Report) → Type 0
 TotallyOrderedServed net totals logs steps arrivals (r ∷ rs) (o ∷ os) =
-    OrderedServed_from net totals (begin_over net logs r) o (publishes_of net (numbers net.brokers) steps) arrivals rs
+    OrderedServed_from net totals (begin_over net logs r) o (requests_of net (numbers net.brokers) steps) arrivals rs
     os
 TotallyOrderedServed net totals logs steps arrivals _ _ = ⊥
 

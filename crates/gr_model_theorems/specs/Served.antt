@@ -23,7 +23,8 @@ use Rattle.gr_model.specs.World.{World, Transition, sent_lines}
 use Rattle.gr_model_calls.specs.OneNet.{run_from, run_all, comes, Holds_from}
 use Rattle.gr_model_theorems.specs.Obeys.{StepsObey}
 use Rattle.gr_model_theorems.specs.ByRules.{RunByRules}
-use Rattle.gr_model.specs.Arrivals.{Arrival, datagram, quiet, Publish, publishes_of, left_after, fault_number}
+use Rattle.gr_model.specs.Arrivals.{Arrival, datagram, quiet, Publish, Request, asks_publish, asks_join, requests_of}
+use Rattle.gr_model.specs.Arrivals.{left_after, fault_number}
 use Rattle.gr_model.specs.Arrivals.{publisher_of, submitted_in}
 use Rattle.gr_model.specs.Headline.{History, history, is_record_line, is_doubt_line, is_sent, sent_number}
 use Rattle.gr_model.specs.Headline.{sent_count}
@@ -67,10 +68,11 @@ IsHonest lines (a ∷ arrivals) (r ∷ rs) = IsHonestAt lines a × IsHonest (lin
 abbrev pub as_line : Step → Line
 as_line s = record { number = 0; step = s }
 
--- the publish that a quiet moment takes
-abbrev pub publish_step : List Publish → List Line
-publish_step [] = []
-publish_step (x ∷ left) = as_line (step.Publish x.0 x.1.0 None x.1.1) ∷ []
+-- the publish or join that a quiet moment takes
+abbrev pub request_step : List Request → List Line
+request_step [] = []
+request_step (asks_publish p number e ∷ left) = as_line (step.Publish p number None e) ∷ []
+request_step (asks_join s p ∷ left) = as_line (step.Join s p) ∷ []
 
 -- the datagram as the delivery of a frame; one that is no frame is none
 abbrev pub delivery_step : Option ℕ → List Line
@@ -84,7 +86,7 @@ is_frame (Err fault) = false
 -- a note as the publish that it submits; any other is none
 abbrev pub submitted_step : Option Publish → List Line
 submitted_step None = []
-submitted_step (Some x) = publish_step (x ∷ [])
+submitted_step (Some x) = request_step (asks_publish x.0 x.1.0 x.1.1 ∷ [])
 
 abbrev pub note_step : Net → ℕ → Result Note NoteFault → List Line
 note_step net b (Err fault) = []
@@ -98,16 +100,16 @@ datagram_step net lines b bytes =
     ]
 
 -- The clock moves to the moment of the arrival. A note is the publish that it submits, a datagram with the bytes of a
--- frame that was sent is the delivery of that frame, and a quiet moment is a publish, where one is left, and then a
--- wake of each of these brokers in order.
-abbrev pub steps_at : Net → List ℕ → List Report → List Publish → Arrival → List Line
+-- frame that was sent is the delivery of that frame, and a quiet moment is a publish or join, where one is left, and
+-- then a wake of each of these brokers in order.
+abbrev pub steps_at : Net → List ℕ → List Report → List Request → Arrival → List Line
 steps_at net hosted lines left (datagram b bytes moment) =
     as_line (step.Clock (min moment max_tick)) ∷ datagram_step net lines b bytes
 steps_at net hosted lines left (quiet moment) =
-    as_line (step.Clock (min moment max_tick)) ∷ (publish_step left ++ map (λ b. as_line (step.Wake b)) hosted)
+    as_line (step.Clock (min moment max_tick)) ∷ (request_step left ++ map (λ b. as_line (step.Wake b)) hosted)
 
 -- where all brokers are hosted
-abbrev pub steps_of_arrival : Net → List Report → List Publish → Arrival → List Line
+abbrev pub steps_of_arrival : Net → List Report → List Request → Arrival → List Line
 steps_of_arrival net lines left a = steps_at net (numbers net.brokers) lines left a
 
 -- the line of a datagram that is no frame; it belongs to none of the steps
@@ -151,7 +153,7 @@ is_dropped _ = false
 
 -- An arrival at these brokers leaves the world of its steps and tells their lines, and then that of a datagram that is
 -- dropped. Each call of the steps obeys its rule, and all that the steps leave and tell is by the rules
-pub record DoesStepsAt (net : Net) (hosted : List ℕ) (w : World) (left : List Publish) (a : Arrival)
+pub record DoesStepsAt (net : Net) (hosted : List ℕ) (w : World) (left : List Request) (a : Arrival)
     (steps : List Line) : Type 0 where
   pub world : (comes net hosted w left a).world ≡ (run_all net w steps).world
   pub lines : (comes net hosted w left a).lines ≡ (run_all net w steps).lines ++ dropped_line net a
@@ -159,12 +161,12 @@ pub record DoesStepsAt (net : Net) (hosted : List ℕ) (w : World) (left : List 
   pub by_rules : RunByRules net w steps (run_from net w steps) (run_all net w steps).world
 
 -- where all brokers are hosted
-abbrev pub DoesSteps : Net → World → List Publish → Arrival → List Line → Type 0
+abbrev pub DoesSteps : Net → World → List Request → Arrival → List Line → Type 0
 DoesSteps net w left a steps = DoesStepsAt net (numbers net.brokers) w left a steps
 
 -- So does each, in the world that those before it leave and after the lines told so far. The lines of frames tell all
 -- frames of that world, numbered 1, 2, 3 and so on
-abbrev pub AllDoSteps : Net → World → List Report → List Publish → List Arrival → Type 0
+abbrev pub AllDoSteps : Net → World → List Report → List Request → List Arrival → Type 0
 AllDoSteps net w lines left [] = filter is_sent lines ≡ sent_lines 1 w.frames
 AllDoSteps net w lines left (a ∷ arrivals) =
     (filter is_sent lines ≡ sent_lines 1 w.frames)
@@ -180,7 +182,7 @@ pub record ArrivalTold (net : Net) (h : History) (a : Arrival) (ls : List Report
   pub numbered : map sent_number (filter is_sent ls) ≡ numbers_from (suc (sent_count h.lines)) (sent_count ls)
 
 -- Of one arrival at these brokers, where Rest is to hold of the history after its steps
-pub record ArrivalHoldsAt (net : Net) (hosted : List ℕ) (h : History) (left : List Publish) (a : Arrival)
+pub record ArrivalHoldsAt (net : Net) (hosted : List ℕ) (h : History) (left : List Request) (a : Arrival)
     (r : List Report) (Rest : History → Type 0) : Type 0 where
   pub told : ArrivalTold net h a r
   -- its lines are those of its steps, and then that of a datagram that is dropped
@@ -191,7 +193,7 @@ pub record ArrivalHoldsAt (net : Net) (hosted : List ℕ) (h : History) (left : 
   pub rest : Rest (history net h (steps_at net hosted h.lines left a) parts)
 
 -- where all brokers are hosted
-abbrev pub ArrivalHolds : Net → History → List Publish → Arrival → List Report → (History → Type 0) → Type 0
+abbrev pub ArrivalHolds : Net → History → List Request → Arrival → List Report → (History → Type 0) → Type 0
 ArrivalHolds net h left a r Rest = ArrivalHoldsAt net (numbers net.brokers) h left a r Rest
 
 -- At the end all is shown, and nothing else is told
@@ -200,7 +202,7 @@ pub record ShowHolds (net : Net) (h : History) (r : List Report) : Type 0 where
   pub steps : Holds_from net h (as_line step.Show ∷ []) (r ∷ [])
 
 -- So it is of each arrival, and of the end
-abbrev pub HoldsServed : Net → History → List Publish → List Arrival → List (List Report) → Type 0
+abbrev pub HoldsServed : Net → History → List Request → List Arrival → List (List Report) → Type 0
 HoldsServed net h left [] [] = ⊥
 HoldsServed net h left [] (r ∷ []) = ShowHolds net h r
 HoldsServed net h left [] (r ∷ (s ∷ rs)) = ⊥
@@ -215,7 +217,7 @@ abbrev pub HeadlineServed : Net → List Log → List Line → List Arrival → 
 HeadlineServed net logs steps arrivals [] = ⊥
 HeadlineServed net logs steps arrivals (r ∷ rs) =
     (r ≡ flat_map (told_at_opening net logs) (publishers_at net (numbers net.brokers)))
-    × HoldsServed net (begin_over net logs r) (publishes_of net (numbers net.brokers) steps) arrivals rs
+    × HoldsServed net (begin_over net logs r) (requests_of net (numbers net.brokers) steps) arrivals rs
 
 -- the journal of such a run is honest; the first of its reports is the opening
 abbrev pub IsHonestRun : List Arrival → List (List Report) → Type 0

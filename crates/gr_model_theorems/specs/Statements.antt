@@ -19,7 +19,7 @@ use Rattle.gr_model.specs.World.{World, Transition, view_of, log_of, frame_at, s
 use Rattle.gr_model_calls.specs.OneNet.{last_net}
 use Rattle.gr_model_calls.specs.OneNet as one
 use Rattle.gr_model.specs.Opening.{opening, publishers_at, begin_over}
-use Rattle.gr_model.specs.Arrivals.{served, arrived, Arrival, publishes_of, clash_runs, first_of}
+use Rattle.gr_model.specs.Arrivals.{served, arrived, Arrival, requests_of, clash_runs, first_of}
 use Rattle.gr_model.specs.Headline.{History, record_of, delivered_events, last_horizon, GetsExactly, Holds_from, recorded_net, is_doubt_line, doubt_place, doubts_shown}
 use Rattle.gr_model_calls.specs.Said.{due_between}
 use Rattle.gr_model_calls.specs.Fits.{StepsIn}
@@ -213,7 +213,7 @@ RunsOverByNoOther net logs steps =
 -- the world after a journal that comes to all brokers, and the net of the joins that the logs have then
 abbrev pub served_end : Net → List Log → List Line → List Arrival → World
 served_end net logs steps arrivals =
-    arrived net (numbers net.brokers) (started_over net logs).world (publishes_of net (numbers net.brokers) steps)
+    arrived net (numbers net.brokers) (started_over net logs).world (requests_of net (numbers net.brokers) steps)
     arrivals
 
 abbrev pub served_net : Net → List Log → List Line → List Arrival → Net
@@ -229,7 +229,7 @@ MeetsHeadlineServed net logs steps arrivals =
 pub record ArrivalsDoSteps (net : Net) (logs : List Log) (steps : List Line) (arrivals : List Arrival) : Type 0 where
   pub opens : started_over net logs ≡ opened_over (served_net net logs steps arrivals) logs
   pub does : AllDoSteps (served_net net logs steps arrivals) (started_over net logs).world (started_over net logs).lines
-      (publishes_of net (numbers net.brokers) steps) arrivals
+      (requests_of net (numbers net.brokers) steps) arrivals
   pub reports : served net (numbers net.brokers) logs steps arrivals
       ≡ one.served (served_net net logs steps arrivals) (numbers net.brokers) logs steps arrivals
 

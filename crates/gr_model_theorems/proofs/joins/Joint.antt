@@ -14,7 +14,7 @@ use Rattle.gr_model.specs.Tree.{IsNet}
 use Rattle.gr_model.specs.Broker.{View, seen}
 use Rattle.gr_model.specs.World.{World, Transition, log_of, start}
 use Rattle.gr_model.specs.Headline.{History, history, begin, is_sent}
-use Rattle.gr_model.specs.Arrivals.{Arrival, Publish, left_after}
+use Rattle.gr_model.specs.Arrivals.{Arrival, left_after, Request}
 use Rattle.gr_model_calls.specs.OneNet as one
 use Rattle.gr_model_calls.specs.Fits.{WorldFits, StepIn, StepsIn}
 use Rattle.gr_model_calls.proofs.calls.Held.{grows_not}
@@ -28,11 +28,11 @@ use Rattle.gr_model_theorems.proofs.limits.Spelled.{IsSmall, next_in}
 use Rattle.gr_model_theorems.proofs.server.Serving.{AreBrokers, LeftIn, left_in, Ready, turn}
 use Rattle.gr_model_theorems.proofs.server.Joint.{part_of, with_part, lefts_in, honest_same, start_ready, honest_begun, headline_joint as headline_on_one, joint_does as does_on_one}
 use Rattle.gr_model_theorems.proofs.joins.AsOne.{steps_in, start_same}
-use Rattle.gr_model_theorems.proofs.joins.Serving.{comes_back, comes_runs, honest_told, publishes_same}
+use Rattle.gr_model_theorems.proofs.joins.Serving.{comes_back, comes_runs, honest_told, requests_same}
 use Rattle.gr_model_theorems.proofs.joins.Served.{small_in}
 
 module _ (m : Net) (see : View → Net) (last : ℕ → Joins) (processes : List (List ℕ)) where
-  pub end_back : (turns : List (ℕ × Arrival)) (lefts : List (List Publish)) (w : World) → AheadOf m last (joint_end_by see m processes w lefts turns) → AheadOf m last w
+  pub end_back : (turns : List (ℕ × Arrival)) (lefts : List (List Request)) (w : World) → AheadOf m last (joint_end_by see m processes w lefts turns) → AheadOf m last w
   unfolding joint_end_by
   end_back [] lefts w b = b
   end_back (x ∷ turns) lefts w b = comes_back m see last (brokers_of processes x.0) (left_of lefts x.0) x.1 w (end_back turns (lefts_after lefts x) (joint_comes_by see m processes w lefts x).world b)
@@ -45,14 +45,14 @@ module _ (net : Net) (last : ℕ → Joins) (n : IsNet net) (on : 1 ≤ net.quie
   tree = IsNet-with net (λ p s t e. wants_with net (last p) p s t e) n
 
   -- from where all stands on, what an honest joint journal leads to is the same
-  pub joint_are : (turns : List (ℕ × Arrival)) (w : World) (h : History) (lefts : List (List Publish)) → Ready m P w h → AllByRecursion (LeftIn net) lefts → AllByRecursion (λ (x : ℕ × Arrival). IsOfBytes x.1) turns → IsHonestJoint h.lines turns (joint_from_by (seen net) net processes w lefts turns) → AheadOf net last (joint_end_by (seen net) net processes w lefts turns)
+  pub joint_are : (turns : List (ℕ × Arrival)) (w : World) (h : History) (lefts : List (List Request)) → Ready m P w h → AllByRecursion (LeftIn net) lefts → AllByRecursion (λ (x : ℕ × Arrival). IsOfBytes x.1) turns → IsHonestJoint h.lines turns (joint_from_by (seen net) net processes w lefts turns) → AheadOf net last (joint_end_by (seen net) net processes w lefts turns)
       → joint_from_by (seen net) net processes w lefts turns ≡ joint_from_by (λ _. m) m processes w lefts turns
   unfolding joint_from_by joint_end_by
   joint_are [] w h lefts r l f x b = refl
   joint_are (x ∷ turns) w h lefts r l f honest b =
       let hosted : List ℕ = brokers_of processes x.0 in
-      let left : List Publish = left_of lefts x.0 in
-      let rest : List (List Publish) = lefts_after lefts x in
+      let left : List Request = left_of lefts x.0 in
+      let rest : List (List Request) = lefts_after lefts x in
       let steps : List Line = steps_at m hosted h.lines left x.1 in
       let t : Transition = joint_comes_by (seen net) net processes w lefts x in
       let u : Transition = joint_comes_by (λ _. m) m processes w lefts x in
@@ -71,7 +71,7 @@ module _ (net : Net) (last : ℕ → Joins) (n : IsNet net) (on : 1 ≤ net.quie
 
 lefts_same : (net : Net) (f : ℕ → ℕ → ℕ → Event → Bool) (processes : List (List ℕ)) (steps : List Line) → lefts_at_start (with_wants net f) processes steps ≡ lefts_at_start net processes steps
 lefts_same net f [] steps = refl
-lefts_same net f (hosted ∷ processes) steps = ap₂ (λ (x : List Publish) (xs : List (List Publish)). x ∷ xs) (publishes_same net f hosted steps) (lefts_same net f processes steps)
+lefts_same net f (hosted ∷ processes) steps = ap₂ (λ (x : List Request) (xs : List (List Request)). x ∷ xs) (requests_same net f hosted steps) (lefts_same net f processes steps)
 
 begin_same : (net : Net) (f : ℕ → ℕ → ℕ → Event → Bool) → begin (with_wants net f) ≡ begin net
 unfolding begin
@@ -99,7 +99,7 @@ on_one : (net : Net) (processes : List (List ℕ)) (steps : List Line) (turns : 
 on_one net processes steps turns e =
     let g = joint_net net processes steps turns in
     e ∙ (ap (λ (w : World). joint_from_by (λ _. g) g processes w (lefts_at_start net processes steps) turns) (sym (start_same net g.wants))
-    ∙ ap (λ (lefts : List (List Publish)). joint_from_by (λ _. g) g processes (start g) lefts turns) (sym (lefts_same net g.wants processes steps)))
+    ∙ ap (λ (lefts : List (List Request)). joint_from_by (λ _. g) g processes (start g) lefts turns) (sym (lefts_same net g.wants processes steps)))
 
 pub headline_joint : (net : Net) (processes : List (List ℕ)) (steps : List Line) (turns : List (ℕ × Arrival)) → IsNet net → IsSmall net → 1 ≤ net.quiet → 1 ≤ net.retry → StepsIn net steps → NumbersIn steps → AllByRecursion (AreBrokers net) processes → AllByRecursion (λ (x : ℕ × Arrival). IsOfBytes x.1) turns → IsHonestJoint [] turns (joint_reports net processes steps turns)
     → HoldsJoint (joint_net net processes steps turns) processes (begin net) (lefts_at_start net processes steps) turns (joint_reports net processes steps turns)
@@ -108,7 +108,7 @@ headline_joint net processes steps turns n small z retry i k are fits honest =
     let rs : List (List Report) = joint_reports net processes steps turns in
     let e = on_one net processes steps turns (joint_same net processes steps turns n small z retry i k are fits honest) in
     subst (λ (h : History). HoldsJoint g processes h (lefts_at_start net processes steps) turns rs) (begin_same net g.wants)
-    (subst (λ (lefts : List (List Publish)). HoldsJoint g processes (begin g) lefts turns rs) (lefts_same net g.wants processes steps)
+    (subst (λ (lefts : List (List Request)). HoldsJoint g processes (begin g) lefts turns rs) (lefts_same net g.wants processes steps)
     (subst (λ (qs : List (List Report)). HoldsJoint g processes (begin g) (lefts_at_start g processes steps) turns qs) (sym e)
     (headline_on_one g processes steps turns (IsNet-with net g.wants n) (small_in net g.wants small) z retry (steps_in net g.wants steps i) k are fits (subst (λ (qs : List (List Report)). IsHonestJoint [] turns qs) e honest))))
 
@@ -118,5 +118,5 @@ joint_does net processes steps turns n small z retry i k are fits honest =
     let g = joint_net net processes steps turns in
     let e = on_one net processes steps turns (joint_same net processes steps turns n small z retry i k are fits honest) in
     subst (λ (w : World). AllDoStepsJoint g processes w [] (lefts_at_start net processes steps) turns) (start_same net g.wants)
-    (subst (λ (lefts : List (List Publish)). AllDoStepsJoint g processes (start g) [] lefts turns) (lefts_same net g.wants processes steps)
+    (subst (λ (lefts : List (List Request)). AllDoStepsJoint g processes (start g) [] lefts turns) (lefts_same net g.wants processes steps)
     (does_on_one g processes steps turns (IsNet-with net g.wants n) (small_in net g.wants small) z retry (steps_in net g.wants steps i) k are fits (subst (λ (qs : List (List Report)). IsHonestJoint [] turns qs) e honest)))

@@ -17,7 +17,7 @@ use Rattle.gr_model.specs.World.{World, Transition, log_of, run_from}
 use Rattle.gr_model.specs.Opening.{begin_over}
 use Rattle.gr_model.specs.Headline.{History, Holds_from}
 use Rattle.gr_model.specs.Ordered.{OneOrder}
-use Rattle.gr_model.specs.Arrivals.{Arrival, Publish, publishes_of, served, served_by, served_from_by, arrived_by}
+use Rattle.gr_model.specs.Arrivals.{Arrival, requests_of, served, served_by, served_from_by, arrived_by, Request}
 use Rattle.gr_model_calls.specs.OneNet as one
 use Rattle.gr_model_calls.specs.Fits.{StepsIn}
 use Rattle.gr_model_calls.proofs.calls.Held.{grows_not}
@@ -30,7 +30,7 @@ use Rattle.gr_model_theorems.specs.Statements.{started_over, opened_over, lines_
 use Rattle.gr_model_theorems.specs.Lanes.{AllFollow, whole_logs, found_logs, lanes_net, HoldsOverLanes, HoldsServedLanes}
 use Rattle.gr_model_theorems.specs.OrderedServed.{told_in_order, opened_report, TotallyOrderedOver, OrderedOverLanes, OneOrderOverLanes, TotallyOrderedServed, OrderedServedLanes, OneOrderServedLanes}
 use Rattle.gr_model_theorems.proofs.limits.Spelled.{IsSmall, next_in}
-use Rattle.gr_model_theorems.proofs.server.Serving.{publishes_are_in}
+use Rattle.gr_model_theorems.proofs.server.Serving.{requests_are_in}
 use Rattle.gr_model_theorems.proofs.server.ServedOver.{opened_ready, begun_lines, headline_served as headline_on_one, served_does as does_on_one}
 use Rattle.gr_model_theorems.proofs.server.Lanes.{are_found, served_lanes, cut_events_silent}
 use Rattle.gr_model_theorems.proofs.order.OverLogs.{ordered_over, at_end as over_end}
@@ -38,7 +38,7 @@ use Rattle.gr_model_theorems.proofs.order.Served.{ordered_served, at_end as serv
 use Rattle.gr_model_theorems.proofs.order.OneOrder.{in_one_order}
 use Rattle.gr_model_theorems.proofs.joins.AsOne.{steps_in, late_in}
 use Rattle.gr_model_theorems.proofs.joins.Over.{reopened_in, opening_runs, over_as_one, headline_over}
-use Rattle.gr_model_theorems.proofs.joins.Serving.{arrived_back, publishes_same, served_are}
+use Rattle.gr_model_theorems.proofs.joins.Serving.{arrived_back, requests_same, served_are}
 
 pub small_in : (net : Net) (f : ℕ → ℕ → ℕ → Event → Bool) → IsSmall net → IsSmall (with_wants net f)
 small_in net f z = record { brokers = z.brokers; publishers = z.publishers; late = late_in net f z.late }
@@ -50,14 +50,14 @@ pub record ServedAsOne (net : Net) (logs : List Log) (steps : List Line) (arriva
   pub steps_in : StepsIn (served_net net logs steps arrivals) steps
   pub reopened : AreReopened (served_net net logs steps arrivals) logs
   pub opens : started_over net logs ≡ opened_over (served_net net logs steps arrivals) logs
-  pub left : publishes_of (served_net net logs steps arrivals) (numbers net.brokers) steps ≡ publishes_of net (numbers net.brokers) steps
+  pub left : requests_of (served_net net logs steps arrivals) (numbers net.brokers) steps ≡ requests_of net (numbers net.brokers) steps
   pub reports : served net (numbers net.brokers) logs steps arrivals ≡ one.served (served_net net logs steps arrivals) (numbers net.brokers) logs steps arrivals
 
 pub served_as_one : (net : Net) (logs : List Log) (steps : List Line) (arrivals : List Arrival) → IsNet net → IsSmall net → 1 ≤ net.quiet → 1 ≤ net.retry → AreReopened net logs → StepsIn net steps → NumbersIn steps → AllByRecursion IsOfBytes arrivals → IsHonestRun arrivals (served net (numbers net.brokers) logs steps arrivals) → ServedAsOne net logs steps arrivals
 unfolding served_by
 served_as_one net logs steps arrivals n small z retry a i m fits honest =
     let all : List ℕ = numbers net.brokers in
-    let left : List Publish = publishes_of net all steps in
+    let left : List Request = requests_of net all steps in
     let wants : ℕ → ℕ → ℕ → Event → Bool = λ p s t e. wants_with net (last p) p s t e in
     let g = served_net net logs steps arrivals in
     let tree : IsNet g = IsNet-with net wants n in
@@ -69,9 +69,9 @@ served_as_one net logs steps arrivals n small z retry a i m fits honest =
     let h : History = begin_over g logs o.lines in
     let here : IsHonest o.lines arrivals (served_from_by (seen net) net all o.world left arrivals) = subst (λ (t : Transition). IsHonest t.lines arrivals (served_from_by (seen net) net all t.world left arrivals)) opens honest in
     let begun : IsHonest h.lines arrivals (served_from_by (seen net) net all o.world left arrivals) = subst (λ (ls : List Report). IsHonest ls arrivals (served_from_by (seen net) net all o.world left arrivals)) (sym (begun_lines g logs o.lines)) here in
-    let x = served_are net last n z retry (WorldIn net.late) (λ u l f j k y. next_in g u l tree tiny f j k y) (λ u y. y.frames) (λ f y. spelled_decodes (frame_bytes f) f y) arrivals o.world h left (opened_ready g logs tree tiny found) (publishes_are_in net all steps i m) fits begun
+    let x = served_are net last n z retry (WorldIn net.late) (λ u l f j k y. next_in g u l tree tiny f j k y) (λ u y. y.frames) (λ f y. spelled_decodes (frame_bytes f) f y) arrivals o.world h left (opened_ready g logs tree tiny found) (requests_are_in net all steps i m) fits begun
     (subst (λ (t : Transition). AheadOf net last (arrived_by (seen net) net all t.world left arrivals)) opens ends) in
-    let same : publishes_of g all steps ≡ left = publishes_same net wants all steps in
+    let same : requests_of g all steps ≡ left = requests_same net wants all steps in
     record {
       tree = tree;
       small = tiny;
@@ -81,7 +81,7 @@ served_as_one net logs steps arrivals n small z retry a i m fits honest =
       left = same;
       reports =
           ap (λ (t : Transition). t.lines ∷ served_from_by (seen net) net all t.world left arrivals) opens
-          ∙ ap (λ (rs : List (List Report)). o.lines ∷ rs) (x.0 ∙ ap (λ (ps : List Publish). one.served_from g all o.world ps arrivals) (sym same));
+          ∙ ap (λ (rs : List (List Report)). o.lines ∷ rs) (x.0 ∙ ap (λ (ps : List Request). one.served_from g all o.world ps arrivals) (sym same));
     }
   where
     last : ℕ → Joins
@@ -103,8 +103,8 @@ served_does net logs steps arrivals n small z retry a i m fits honest =
     let g = served_net net logs steps arrivals in
     record {
       opens = x.opens;
-      does = subst (λ (t : Transition). AllDoSteps g t.world t.lines (publishes_of net (numbers net.brokers) steps) arrivals) (sym x.opens)
-          (subst (λ (ps : List Publish). AllDoSteps g (opened_over g logs).world (opened_over g logs).lines ps arrivals) x.left
+      does = subst (λ (t : Transition). AllDoSteps g t.world t.lines (requests_of net (numbers net.brokers) steps) arrivals) (sym x.opens)
+          (subst (λ (ps : List Request). AllDoSteps g (opened_over g logs).world (opened_over g logs).lines ps arrivals) x.left
           (does_on_one g logs steps arrivals x.tree x.small z retry x.reopened x.steps_in m fits (subst (λ (rs : List (List Report)). IsHonestRun arrivals rs) x.reports honest)));
       reports = x.reports;
     }

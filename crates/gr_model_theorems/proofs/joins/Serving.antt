@@ -24,11 +24,11 @@ use Rattle.gr_model.specs.Net.{Net, with_wants, wants_with, numbers}
 use Rattle.gr_model.specs.Tree.{IsNet}
 use Rattle.gr_model.specs.Broker.{View, Log, seen}
 use Rattle.gr_model.specs.World.{World, Transition, view_of, log_of, unchanged, followed_by, in_turn, wake_all_by, publish_now_by, deliver_frame_by}
-use Rattle.gr_model.specs.Arrivals.{Arrival, datagram, quiet, Publish, at_moment, joins_in, split_line, clash_line, least_clash, fits_broker, fault_number, publisher_of, takes_notes, publishes_in, publishes_of, left_after, takes_by, receives_by, notes_by, reads_by, published_first_by, quieted_by, comes_by, show_hosted, served_from_by, arrived_by}
+use Rattle.gr_model.specs.Arrivals.{asks_publish, asks_join, Arrival, datagram, quiet, Publish, at_moment, joins_in, split_line, clash_line, least_clash, fits_broker, fault_number, publisher_of, takes_notes, requests_in, requests_of, left_after, takes_by, receives_by, notes_by, reads_by, answered_first_by, quieted_by, comes_by, show_hosted, served_from_by, arrived_by, Request}
 use Rattle.gr_model.specs.Headline.{History, history, is_sent}
 use Rattle.gr_model_calls.specs.OneNet as one
 use Rattle.gr_model_calls.specs.Fits.{WorldFits, FrameTrue, StepIn}
-use Rattle.gr_model_calls.proofs.runs.Worlds.{Each, wake_all_kept, publish_kept}
+use Rattle.gr_model_calls.proofs.runs.Worlds.{Each, wake_all_kept, publish_kept, join_kept}
 use Rattle.gr_model_calls.proofs.runs.Closed.{frame_at_ready}
 use Rattle.gr_model_calls.proofs.runs.Schedules.{clocked_fits, frame_at_true}
 use Rattle.gr_model_calls.proofs.runs.Seeing.{Back, Backs, Runs, Runs-same, Runs-after, in_turn_back, in_turn_runs, wake_all_back, wake_all_runs}
@@ -46,16 +46,17 @@ module _ (m : Net) (see : View → Net) (last : ℕ → Joins) where
   abbrev ahead : World → Type 0
   ahead = AheadOf m last
 
-  first_back : (left : List Publish) → Back ahead (λ w. published_first_by see m w left)
+  first_back : (left : List Request) → Back ahead (λ w. answered_first_by see m w left)
   first_back [] w b = b
-  first_back (x ∷ left) w b = (growing m see last).published x.0 x.1.0 x.1.1 w b
+  first_back (asks_publish p number e ∷ left) w b = (growing m see last).published p number e w b
+  first_back (asks_join s p ∷ left) w b = (growing m see last).joined s p w b
 
   wakes_back : (hosted : List ℕ) → Back ahead (in_turn (wake_all_by see m) hosted)
   wakes_back hosted = in_turn_back ahead (wake_all_by see m) (λ b. wake_all_back m see ahead (growing m see last) b) hosted
 
-  pub comes_back : (hosted : List ℕ) (left : List Publish) (a : Arrival) → Back ahead (λ w. comes_by see m hosted w left a)
+  pub comes_back : (hosted : List ℕ) (left : List Request) (a : Arrival) → Back ahead (λ w. comes_by see m hosted w left a)
   unfolding comes_by quieted_by notes_by receives_by takes_by
-  comes_back hosted left (quiet moment) w b = first_back left (at_moment w moment) (wakes_back hosted (published_first_by see m (at_moment w moment) left).world b)
+  comes_back hosted left (quiet moment) w b = first_back left (at_moment w moment) (wakes_back hosted (answered_first_by see m (at_moment w moment) left).world b)
   comes_back hosted left (datagram c bytes moment) w x = go (begins_note bytes) x
     where
       u : World
@@ -91,7 +92,7 @@ module _ (m : Net) (see : View → Net) (last : ℕ → Joins) where
       go true y = noted (note_decoded bytes) y
       go false y = framed (frame_decoded bytes) y
 
-  pub arrived_back : (hosted : List ℕ) (arrivals : List Arrival) (left : List Publish) (w : World) → ahead (arrived_by see m hosted w left arrivals) → ahead w
+  pub arrived_back : (hosted : List ℕ) (arrivals : List Arrival) (left : List Request) (w : World) → ahead (arrived_by see m hosted w left arrivals) → ahead w
   unfolding arrived_by
   arrived_back hosted [] left w b = b
   arrived_back hosted (a ∷ arrivals) left w b = comes_back hosted left a w (arrived_back hosted arrivals (left_after left a) (comes_by see m hosted w left a).world b)
@@ -120,26 +121,28 @@ module _ (net : Net) (last : ℕ → Joins) (n : IsNet net) where
   abbrev B : World → Type 0
   B = AheadOf net last
 
-  first_runs : (w : World) (left : List Publish) → WorldFits g w → LeftIn net left → Runs B (published_first_by (seen net) net w left) (one.published_first g w left)
+  first_runs : (w : World) (left : List Request) → WorldFits g w → LeftIn net left → Runs B (answered_first_by (seen net) net w left) (one.answered_first g w left)
   first_runs w [] f l = Runs-same B (unchanged w [])
-  first_runs w (x ∷ left) f l = (same_calls net last tree).published w x.0 x.1.0 x.1.1 f l.0.0
+  first_runs w (asks_publish p number e ∷ left) f l = (same_calls net last tree).published w p number e f l.0.0
+  first_runs w (asks_join s p ∷ left) f l = (same_calls net last tree).joined w s p f l.0.1
 
-  first_fits : (w : World) (left : List Publish) → WorldFits g w → LeftIn net left → WorldFits g (one.published_first g w left).world
+  first_fits : (w : World) (left : List Request) → WorldFits g w → LeftIn net left → WorldFits g (one.answered_first g w left).world
   first_fits w [] f l = f
-  first_fits w (x ∷ left) f l = (publish_kept g w x.0 x.1.0 x.1.1 tree f l.0.0).fits
+  first_fits w (asks_publish p number e ∷ left) f l = (publish_kept g w p number e tree f l.0.0).fits
+  first_fits w (asks_join s p ∷ left) f l = (join_kept g w s p tree f l.0.0 l.0.1).fits
 
   wakes_runs : (hosted : List ℕ) (w : World) → AreBrokers net hosted → WorldFits g w → Runs B (in_turn (wake_all_by (seen net) net) hosted w) (in_turn (one.wake_all g) hosted w)
   wakes_runs hosted w k f =
       in_turn_runs g B (λ u b. b < net.brokers) (wake_all_by (seen net) net) (one.wake_all g) (λ b. wake_all_back net (seen net) B (growing net (seen net) last) b) (λ b. wake_all_back g (λ _. g) B (growing g (λ _. g) last) b) (λ v u b l h. h) (λ u b x h. wake_all_kept g u b tree x h)
       (λ u b x h. wake_all_runs net wants (seen net) B tree (growing net (seen net) last) (growing g (λ _. g) last) (same_calls net last tree) u b x h) hosted w f (each_broker net hosted k)
 
-  pub comes_runs : (hosted : List ℕ) (w : World) (left : List Publish) (a : Arrival) → AreBrokers net hosted → WorldFits g w → LeftIn net left → IsTold g w a → Runs B (comes_by (seen net) net hosted w left a) (one.comes g hosted w left a)
+  pub comes_runs : (hosted : List ℕ) (w : World) (left : List Request) (a : Arrival) → AreBrokers net hosted → WorldFits g w → LeftIn net left → IsTold g w a → Runs B (comes_by (seen net) net hosted w left a) (one.comes g hosted w left a)
   unfolding comes_by quieted_by notes_by receives_by takes_by
   comes_runs hosted w left (quiet moment) k f l told =
       let u = at_moment w moment in
       let now : WorldFits g u = clocked_fits g w u.clock u.most f in
-      Runs-after B (published_first_by (seen net) net u left) (one.published_first g u left) (in_turn (wake_all_by (seen net) net) hosted) (in_turn (one.wake_all g) hosted) (wakes_back net (seen net) last hosted) (wakes_back g (λ _. g) last hosted)
-      (first_runs u left now l) (wakes_runs hosted (one.published_first g u left).world k (first_fits u left now l))
+      Runs-after B (answered_first_by (seen net) net u left) (one.answered_first g u left) (in_turn (wake_all_by (seen net) net) hosted) (in_turn (one.wake_all g) hosted) (wakes_back net (seen net) last hosted) (wakes_back g (λ _. g) last hosted)
+      (first_runs u left now l) (wakes_runs hosted (one.answered_first g u left).world k (first_fits u left now l))
   comes_runs hosted w left (datagram b bytes moment) k f l told = go (begins_note bytes)
     where
       u : World
@@ -203,7 +206,7 @@ honest_told m P w h (datagram b bytes moment) spelled decodes r x = λ f d. ⊎_
 
 -- A journal
 
-line_same : (net : Net) (f : ℕ → ℕ → ℕ → Event → Bool) (hosted : List ℕ) (k : ℕ) (s : Step) → publishes_in (with_wants net f) hosted (record { number = k; step = s }) ≡ publishes_in net hosted (record { number = k; step = s })
+line_same : (net : Net) (f : ℕ → ℕ → ℕ → Event → Bool) (hosted : List ℕ) (k : ℕ) (s : Step) → requests_in (with_wants net f) hosted (record { number = k; step = s }) ≡ requests_in net hosted (record { number = k; step = s })
 line_same net f hosted k (step.Publish p number stop e) = refl
 line_same net f hosted k (step.Wake b) = refl
 line_same net f hosted k (step.Crash b) = refl
@@ -214,10 +217,10 @@ line_same net f hosted k step.Sweep = refl
 line_same net f hosted k step.Show = refl
 line_same net f hosted k (step.Bytes j) = refl
 
--- what is left to publish is the same
-pub publishes_same : (net : Net) (f : ℕ → ℕ → ℕ → Event → Bool) (hosted : List ℕ) (steps : List Line) → publishes_of (with_wants net f) hosted steps ≡ publishes_of net hosted steps
-publishes_same net f hosted [] = refl
-publishes_same net f hosted (l ∷ ls) = ap₂ (λ (x y : List Publish). x ++ y) (line_same net f hosted l.number l.step) (publishes_same net f hosted ls)
+-- what a schedule asks for is the same
+pub requests_same : (net : Net) (f : ℕ → ℕ → ℕ → Event → Bool) (hosted : List ℕ) (steps : List Line) → requests_of (with_wants net f) hosted steps ≡ requests_of net hosted steps
+requests_same net f hosted [] = refl
+requests_same net f hosted (l ∷ ls) = ap₂ (λ (x y : List Request). x ++ y) (line_same net f hosted l.number l.step) (requests_same net f hosted ls)
 
 shown_same : (net : Net) (f : ℕ → ℕ → ℕ → Event → Bool) (hosted : List ℕ) (w : World) → show_hosted (with_wants net f) hosted w ≡ show_hosted net hosted w
 unfolding show_hosted
@@ -237,7 +240,7 @@ module _ (net : Net) (last : ℕ → Joins) (n : IsNet net) (on : 1 ≤ net.quie
   all = numbers net.brokers
 
   -- from where all stands on, what an honest journal leads to is the same
-  pub served_are : (arrivals : List Arrival) (w : World) (h : History) (left : List Publish) → Ready m P w h → LeftIn net left → AllByRecursion IsOfBytes arrivals → IsHonest h.lines arrivals (served_from_by (seen net) net all w left arrivals) → AheadOf net last (arrived_by (seen net) net all w left arrivals)
+  pub served_are : (arrivals : List Arrival) (w : World) (h : History) (left : List Request) → Ready m P w h → LeftIn net left → AllByRecursion IsOfBytes arrivals → IsHonest h.lines arrivals (served_from_by (seen net) net all w left arrivals) → AheadOf net last (arrived_by (seen net) net all w left arrivals)
       → (served_from_by (seen net) net all w left arrivals ≡ one.served_from m all w left arrivals) × (arrived_by (seen net) net all w left arrivals ≡ one.arrived m all w left arrivals)
   unfolding served_from_by arrived_by
   served_are [] w h left r l f x b = (ap (λ (ls : List Report). ls ∷ []) (sym (shown_same net last_wants all w)), refl)

@@ -21,7 +21,7 @@ use Rattle.gr_model.specs.World.{World, Transition}
 use Rattle.gr_model_calls.specs.OneNet.{next, run_all, run_from, comes, served_from, served}
 use Rattle.gr_model.specs.Opening.{begin_over}
 use Rattle.gr_model.specs.Headline.{History, history}
-use Rattle.gr_model.specs.Arrivals.{Arrival, datagram, quiet, Publish, publisher_of, submitted_in, publishes_of, left_after, show_hosted, served_from_by, served_by}
+use Rattle.gr_model.specs.Arrivals.{Arrival, datagram, quiet, Publish, publisher_of, submitted_in, requests_of, left_after, show_hosted, served_from_by, served_by, Request}
 use Rattle.gr_model.specs.Orders.{Order, fed, ordered, without_ordered, orders_over, ordered_steps}
 use Rattle.gr_model_calls.specs.Fits.{WorldFits, StepIn, StepsIn}
 use Rattle.gr_model_theorems.specs.Found.{AreReopened}
@@ -32,7 +32,7 @@ use Rattle.gr_model_theorems.specs.Lanes.{AllFollow, whole_logs, found_logs}
 use Rattle.gr_model_theorems.specs.OrderedServed.{told_in_order, OrderedServed_from, TotallyOrderedServed, OrderedServedLanes, OneOrderServedLanes}
 use Rattle.gr_model_theorems.proofs.limits.Spelled.{IsSmall, next_in}
 use Rattle.gr_model_theorems.proofs.records.Recorded.{runs}
-use Rattle.gr_model_theorems.proofs.server.Serving.{LeftIn, left_in, publishes_are_in, all_brokers, Ready, turn, still_honest, arrival_holds}
+use Rattle.gr_model_theorems.proofs.server.Serving.{LeftIn, left_in, requests_are_in, all_brokers, Ready, turn, still_honest, arrival_holds}
 use Rattle.gr_model_theorems.proofs.server.ServedOver.{opened_ready, begun_lines}
 use Rattle.gr_model_theorems.proofs.server.Lanes.{are_found, served_lanes}
 use Rattle.gr_model_theorems.proofs.order.Hearing.{joined}
@@ -63,7 +63,7 @@ dropped_unheard net (datagram b bytes moment) = go (begins_note bytes)
 
 module _ (net : Net) (n : IsNet net) (on : 1 ≤ net.quiet) (retry : 1 ≤ net.retry) (P : World → Type 0) (keeps : (u : World) (l : Line) → WorldFits net u → StepIn net l.step → IsInLimits l.step → P u → P (next net u l).world) (spelled : (u : World) → P u → AllByRecursion IsSpelled u.frames) (decodes : (f : Frame) → IsSpelled f → frame_decoded (frame_bytes f) ≡ Ok f) (totals : List ℕ) (apart : IsDistinct totals) (there : (s : ℕ) → list_any (λ x. nat_eq x s) totals ≡ true → IsSubscriber net s) where
   -- from where all stands on, of what an honest journal leads to
-  pub ordered_from : (arrivals : List Arrival) (w : World) (h : History) (left : List Publish) (told : List Report) (os : List Order) (rs : List (List Report)) → Ready net P w h → LeftIn net left → AllByRecursion IsOfBytes arrivals
+  pub ordered_from : (arrivals : List Arrival) (w : World) (h : History) (left : List Request) (told : List Report) (os : List Order) (rs : List (List Report)) → Ready net P w h → LeftIn net left → AllByRecursion IsOfBytes arrivals
       → IsHonest h.lines arrivals (served_from net (numbers net.brokers) w left arrivals) → Come net totals h told os rs → ordered os ≡ []
       → OrderedServed_from net totals h told left arrivals (served_from net (numbers net.brokers) w left arrivals) (ordered_steps os (served_from net (numbers net.brokers) w left arrivals))
   unfolding served_from_by ordered_steps
@@ -102,12 +102,12 @@ ordered_served net totals logs steps arrivals n z on retry a i m fits apart belo
     let h : History = begin_over net logs o.lines in
     let next : List Order = fed (orders_over net.publishers totals) o.lines in
     ordered_from net n on retry (WorldIn net.late) (λ u l f j k x. next_in net u l n z f j k x) (λ u x. x.frames) (λ f x. spelled_decodes (frame_bytes f) f x) totals apart (λ s here. n.subscriber s (below s here))
-    arrivals o.world h (publishes_of net (numbers net.brokers) steps) (ordered next) (without_ordered next) (o.lines ∷ []) (opened_ready net logs n z a) (publishes_are_in net (numbers net.brokers) steps i m) fits honest
+    arrivals o.world h (requests_of net (numbers net.brokers) steps) (ordered next) (without_ordered next) (o.lines ∷ []) (opened_ready net logs n z a) (requests_are_in net (numbers net.brokers) steps i m) fits honest
     (begins net totals h o.lines (begun_lines net logs o.lines)) (rested_ready next)
 
 -- ---- one order
 
-last_arrival : (net : Net) (totals : List ℕ) (h : History) (told : List Report) (left : List Publish) (arrivals : List Arrival) (rs os : List (List Report)) → OrderedServed_from net totals h told left arrivals rs os → AtEnd net totals (told ++ joined os)
+last_arrival : (net : Net) (totals : List ℕ) (h : History) (told : List Report) (left : List Request) (arrivals : List Arrival) (rs os : List (List Report)) → OrderedServed_from net totals h told left arrivals rs os → AtEnd net totals (told ++ joined os)
 last_arrival net totals h told left [] (r ∷ []) (o ∷ []) k =
     let a : AtEnd net totals told = record { now = h; ordered = k.0 } in
     subst (λ (xs : List Report). AtEnd net totals (told ++ (xs ++ []))) (sym k.1) (subst (λ (xs : List Report). AtEnd net totals xs) (sym (append-nil told)) a)
@@ -123,4 +123,4 @@ last_arrival net totals h told left (a ∷ arrivals) (r ∷ rs) [] k = absurd k
 pub at_end : (net : Net) (totals : List ℕ) (logs : List Log) (steps : List Line) (arrivals : List Arrival) (rs told : List (List Report)) → TotallyOrderedServed net totals logs steps arrivals rs told → AtEnd net totals (joined told)
 at_end net totals logs steps arrivals [] told k = absurd k
 at_end net totals logs steps arrivals (r ∷ rs) [] k = absurd k
-at_end net totals logs steps arrivals (r ∷ rs) (o ∷ os) k = last_arrival net totals (begin_over net logs r) o (publishes_of net (numbers net.brokers) steps) arrivals rs os k
+at_end net totals logs steps arrivals (r ∷ rs) (o ∷ os) k = last_arrival net totals (begin_over net logs r) o (requests_of net (numbers net.brokers) steps) arrivals rs os k

@@ -24,12 +24,12 @@ use Rattle.gr_model.specs.declared.report.Report.TheVariants as line
 use Rattle.gr_model.specs.Net.{Net, not_empty, numbers}
 use Rattle.gr_model.specs.Broker.{max_tick, clashes}
 use Rattle.gr_model.specs.World.{World, Transition, view_of, unchanged, followed_by, in_turn, frame_at, sent_line, sent_lines, next_by}
-use Rattle.gr_model_calls.specs.OneNet.{deliver_frame, publish_now, wake_all, next, run_all, takes, receives, notes, reads, published_first, quieted, comes}
+use Rattle.gr_model_calls.specs.OneNet.{deliver_frame, publish_now, wake_all, next, run_all, takes, receives, notes, reads, answered_first, quieted, comes, join_now}
 use Rattle.gr_model_calls.specs.Edges.{GoesBetween, GoesOverEdge}
 use Rattle.gr_model.specs.Headline.{is_sent, sent_number}
 use Rattle.gr_model_theorems.specs.Replies.{frame_of_line}
-use Rattle.gr_model.specs.Arrivals.{joins_in, split_line, Arrival, datagram, quiet, Publish, at_moment, fits_broker, clash_runs, first_of, least_clash, clash_line, fault_number, publisher_of, submitted_in, comes_by, quieted_by, receives_by, takes_by, notes_by}
-use Rattle.gr_model_theorems.specs.Served.{tells_bytes, number_of_bytes, as_line, publish_step, delivery_step, is_frame, submitted_step, note_step, datagram_step, steps_at, dropped_as, unsubmitted_as, note_dropped_as, datagram_dropped, dropped_line}
+use Rattle.gr_model.specs.Arrivals.{asks_publish, asks_join, joins_in, split_line, Arrival, datagram, quiet, Publish, at_moment, fits_broker, clash_runs, first_of, least_clash, clash_line, fault_number, publisher_of, submitted_in, comes_by, quieted_by, receives_by, takes_by, notes_by, Request}
+use Rattle.gr_model_theorems.specs.Served.{tells_bytes, number_of_bytes, as_line, request_step, delivery_step, is_frame, submitted_step, note_step, datagram_step, steps_at, dropped_as, unsubmitted_as, note_dropped_as, datagram_dropped, dropped_line}
 use Rattle.gr_model.specs.Tree.{IsNet}
 use Rattle.gr_model_calls.specs.Fits.{WorldFits}
 use Rattle.gr_model_calls.proofs.runs.Clash.{no_frame_splits, no_frame_clashes}
@@ -192,10 +192,11 @@ wakes_run net (b ∷ bs) w =
 one_step : (s : Transition) → followed_by s (λ u. unchanged u []) ≡ s
 one_step s = ap (λ (z : List Report). record { world = s.world; lines = z }) (append-nil s.lines)
 
-published_run : (net : Net) (w : World) (left : List Publish) → run_all net w (publish_step left) ≡ published_first net w left
+published_run : (net : Net) (w : World) (left : List Request) → run_all net w (request_step left) ≡ answered_first net w left
 unfolding next_by
 published_run net w [] = refl
-published_run net w (x ∷ left) = one_step (publish_now net w x.0 x.1.0 x.1.1)
+published_run net w (asks_publish p number e ∷ left) = one_step (publish_now net w p number e)
+published_run net w (asks_join s p ∷ left) = one_step (join_now net w s p)
 
 clock_step : (net : Net) (w : World) (now : ℕ) → next net w (as_line (step.Clock now)) ≡ unchanged (moved w now) []
 unfolding next_by
@@ -230,12 +231,12 @@ dropped_by net b bytes c = elim c [ true ↦ note_dropped_as net b (note_decoded
 -- An arrival and its steps
 
 -- it leaves the world of its steps and tells their lines, but for the line of a datagram that is dropped
-pub record Does (net : Net) (hosted : List ℕ) (w : World) (left : List Publish) (a : Arrival) (steps : List Line) : Type 0 where
+pub record Does (net : Net) (hosted : List ℕ) (w : World) (left : List Request) (a : Arrival) (steps : List Line) : Type 0 where
   pub world : (comes net hosted w left a).world ≡ (run_all net w steps).world
   pub lines : (comes net hosted w left a).lines ≡ (run_all net w steps).lines ++ dropped_line net a
   pub called : (f : Report → Bool) → IsForeign f → filter f (run_all net w steps).lines ≡ []
 
-does : (net : Net) (hosted : List ℕ) (w : World) (left : List Publish) (a : Arrival) (steps : List Line) → dropped_line net a ≡ [] → comes net hosted w left a ≡ run_all net w steps → ((f : Report → Bool) → IsForeign f → filter f (comes net hosted w left a).lines ≡ []) → Does net hosted w left a steps
+does : (net : Net) (hosted : List ℕ) (w : World) (left : List Request) (a : Arrival) (steps : List Line) → dropped_line net a ≡ [] → comes net hosted w left a ≡ run_all net w steps → ((f : Report → Bool) → IsForeign f → filter f (comes net hosted w left a).lines ≡ []) → Does net hosted w left a steps
 does net hosted w left a steps none e called = record {
   world = ap (λ (t : Transition). t.world) e;
   lines = ap (λ (t : Transition). t.lines) e ∙ (sym (append-nil (run_all net w steps).lines) ∙ ap (λ (z : List Report). (run_all net w steps).lines ++ z) (sym none));
@@ -243,19 +244,19 @@ does net hosted w left a steps none e called = record {
 }
 
 -- a moment without a datagram does what its steps do
-pub quiet_does : (net : Net) (hosted : List ℕ) (w : World) (left : List Publish) (moment : ℕ) (lines : List Report) → Does net hosted w left (quiet moment) (steps_at net hosted lines left (quiet moment))
+pub quiet_does : (net : Net) (hosted : List ℕ) (w : World) (left : List Request) (moment : ℕ) (lines : List Report) → Does net hosted w left (quiet moment) (steps_at net hosted lines left (quiet moment))
 unfolding comes_by quieted_by
 quiet_does net hosted w left moment lines =
     let u = at_moment w moment in
     let now : ℕ = min moment max_tick in
     let wakes = map (λ b. as_line (step.Wake b)) hosted in
     does net hosted w left (quiet moment) (steps_at net hosted lines left (quiet moment)) refl (sym (
-    clock_first net w now (publish_step left ++ wakes) ∙ (run_append net u (publish_step left) wakes
+    clock_first net w now (request_step left ++ wakes) ∙ (run_append net u (request_step left) wakes
     ∙ (ap (λ (s : Transition). followed_by s (λ v. run_all net v wakes)) (published_run net u left)
-    ∙ (let s : Transition = published_first net u left in ap (λ (r : Transition). record { world = r.world; lines = s.lines ++ r.lines }) (wakes_run net hosted s.world)))))) (λ f k. quieted_none f k net hosted u left)
+    ∙ (let s : Transition = answered_first net u left in ap (λ (r : Transition). record { world = r.world; lines = s.lines ++ r.lines }) (wakes_run net hosted s.world)))))) (λ f k. quieted_none f k net hosted u left)
 
 -- one that is dropped with these lines changes nothing but the clock
-dropped_does : (net : Net) (hosted : List ℕ) (w : World) (left : List Publish) (a : Arrival) (now : ℕ) (steps : List Line) (told : List Report) → steps ≡ as_line (step.Clock now) ∷ [] → dropped_line net a ≡ told → comes net hosted w left a ≡ unchanged (moved w now) told → Does net hosted w left a steps
+dropped_does : (net : Net) (hosted : List ℕ) (w : World) (left : List Request) (a : Arrival) (now : ℕ) (steps : List Line) (told : List Report) → steps ≡ as_line (step.Clock now) ∷ [] → dropped_line net a ≡ told → comes net hosted w left a ≡ unchanged (moved w now) told → Does net hosted w left a steps
 dropped_does net hosted w left a now steps told is drop e =
     let r : run_all net w (as_line (step.Clock now) ∷ []) ≡ unchanged (moved w now) [] = clock_first net w now [] in
     subst (λ (z : List Line). Does net hosted w left a z) (sym is) (record {
@@ -265,7 +266,7 @@ dropped_does net hosted w left a now steps told is drop e =
     })
 
 -- a datagram with a frame that was sent does what the steps of its delivery do
-pub frame_does : (net : Net) (hosted : List ℕ) (w : World) (left : List Publish) (b moment k : ℕ) (bytes : List ℕ) (f : Frame) (lines : List Report) → IsNet net → WorldFits net (at_moment w moment) → begins_note bytes ≡ false → frame_decoded bytes ≡ Ok f → frame_at w k ≡ Some f → f.head.to ≡ b → GoesOverEdge net f → number_of_bytes b bytes lines ≡ Some k →
+pub frame_does : (net : Net) (hosted : List ℕ) (w : World) (left : List Request) (b moment k : ℕ) (bytes : List ℕ) (f : Frame) (lines : List Report) → IsNet net → WorldFits net (at_moment w moment) → begins_note bytes ≡ false → frame_decoded bytes ≡ Ok f → frame_at w k ≡ Some f → f.head.to ≡ b → GoesOverEdge net f → number_of_bytes b bytes lines ≡ Some k →
     Does net hosted w left (datagram b bytes moment) (steps_at net hosted lines left (datagram b bytes moment))
 unfolding comes_by
 frame_does net hosted w left b moment k bytes f lines n fit begun d at to over number =
@@ -281,7 +282,7 @@ frame_does net hosted w left b moment k bytes f lines n fit begun d at to over n
     (λ g foreign. ap (λ (t : Transition). filter g t.lines) came ∙ deliver_none g foreign net u f))
 
 -- a datagram that is neither a note nor a frame does what its steps do: it changes nothing
-pub fault_does : (net : Net) (hosted : List ℕ) (w : World) (left : List Publish) (b moment : ℕ) (bytes : List ℕ) (fault : FrameFault) (lines : List Report) → begins_note bytes ≡ false → frame_decoded bytes ≡ Err fault → Does net hosted w left (datagram b bytes moment) (steps_at net hosted lines left (datagram b bytes moment))
+pub fault_does : (net : Net) (hosted : List ℕ) (w : World) (left : List Request) (b moment : ℕ) (bytes : List ℕ) (fault : FrameFault) (lines : List Report) → begins_note bytes ≡ false → frame_decoded bytes ≡ Err fault → Does net hosted w left (datagram b bytes moment) (steps_at net hosted lines left (datagram b bytes moment))
 unfolding comes_by receives_by
 fault_does net hosted w left b moment bytes fault lines begun d =
     let now : ℕ = min moment max_tick in
@@ -292,7 +293,7 @@ fault_does net hosted w left b moment bytes fault lines begun d =
     (as_frame net (at_moment w moment) b bytes begun ∙ ap (receives net (at_moment w moment) b) d)
 
 -- a note does what its steps do: it publishes what it submits, or changes nothing
-pub note_does : (net : Net) (hosted : List ℕ) (w : World) (left : List Publish) (b moment : ℕ) (bytes : List ℕ) (lines : List Report) → begins_note bytes ≡ true → Does net hosted w left (datagram b bytes moment) (steps_at net hosted lines left (datagram b bytes moment))
+pub note_does : (net : Net) (hosted : List ℕ) (w : World) (left : List Request) (b moment : ℕ) (bytes : List ℕ) (lines : List Report) → begins_note bytes ≡ true → Does net hosted w left (datagram b bytes moment) (steps_at net hosted lines left (datagram b bytes moment))
 unfolding comes_by notes_by
 note_does net hosted w left b moment bytes lines begun = go (note_decoded bytes) refl
   where
@@ -324,14 +325,14 @@ note_does net hosted w left b moment bytes lines begun = go (note_decoded bytes)
         (dropped (Ok n) d ∙ ap (unsubmitted_as b (publisher_of n)) e)
         (came (Ok n) d ∙ ap (λ (o : Option Publish). elim o [ Some x ↦ publish_now net u x.0 x.1.0 x.1.1 | None ↦ unchanged u (line.DroppedStrayNote b (publisher_of n) ∷ []) ]) e)
     submit n (Some x) e d =
-        let all : List Line = clock (publish_step (x ∷ [])) in
+        let all : List Line = clock (request_step (asks_publish x.0 x.1.0 x.1.1 ∷ [])) in
         let is : steps_at net hosted lines left a ≡ all = steps (Ok n) d ∙ ap (λ (o : Option Publish). clock (submitted_step o)) e in
-        let same : comes net hosted w left a ≡ published_first net u (x ∷ []) =
+        let same : comes net hosted w left a ≡ answered_first net u (asks_publish x.0 x.1.0 x.1.1 ∷ []) =
         came (Ok n) d ∙ ap (λ (o : Option Publish). elim o [ Some x ↦ publish_now net u x.0 x.1.0 x.1.1 | None ↦ unchanged u (line.DroppedStrayNote b (publisher_of n) ∷ []) ]) e in
         subst (λ (z : List Line). Does net hosted w left a z) (sym is) (does net hosted w left a all
         (dropped (Ok n) d ∙ ap (unsubmitted_as b (publisher_of n)) e)
-        (same ∙ sym (clock_first net w now (publish_step (x ∷ [])) ∙ published_run net u (x ∷ [])))
-        (λ f k. ap (λ (t : Transition). filter f t.lines) same ∙ published_none f k net u (x ∷ [])))
+        (same ∙ sym (clock_first net w now (request_step (asks_publish x.0 x.1.0 x.1.1 ∷ [])) ∙ published_run net u (asks_publish x.0 x.1.0 x.1.1 ∷ [])))
+        (λ f k. ap (λ (t : Transition). filter f t.lines) same ∙ published_none f k net u (asks_publish x.0 x.1.0 x.1.1 ∷ [])))
 
     go : (r : Result Note NoteFault) → note_decoded bytes ≡ r → Does net hosted w left a (steps_at net hosted lines left a)
     go (Ok n) d = submit n (submitted_in net b n) refl d

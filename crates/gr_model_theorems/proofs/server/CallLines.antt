@@ -13,15 +13,16 @@ use Rattle.gr_curio.specs.Values.{Wanted}
 use Rattle.gr_model.specs.declared.report.Report.{Report}
 use Rattle.gr_model.specs.declared.report.Report.TheVariants as line
 use Rattle.gr_model.specs.Net.{Net, is_host, numbers}
-use Rattle.gr_model.specs.Broker.{View, Log, Outcome, max_tick, marking, cutting, wake, wake_host, wake_below, asking, publish, receive}
-use Rattle.gr_model.specs.World.{World, Transition, view_of, log_of, absorbed, in_turn, sent_line, sent_lines, deliver_frame_by, publish_now_by, wake_all_by, wake_for_by}
-use Rattle.gr_model_calls.specs.OneNet.{wake_for, wake_all, deliver_frame, publish_now, published_first, quieted}
-use Rattle.gr_model.specs.Headline.{Recorded, publish_line}
+use Rattle.gr_model.specs.Broker.{View, Log, Outcome, max_tick, marking, cutting, wake, wake_host, wake_below, asking, publish, receive, joining}
+use Rattle.gr_model.specs.World.{World, Transition, view_of, log_of, absorbed, in_turn, sent_line, sent_lines, deliver_frame_by, publish_now_by, wake_all_by, wake_for_by, join_now_by}
+use Rattle.gr_event.specs.Joins.{has_joined}
+use Rattle.gr_model_calls.specs.OneNet.{wake_for, wake_all, deliver_frame, publish_now, answered_first, quieted}
+use Rattle.gr_model.specs.Headline.{Recorded, publish_line, join_line}
 use Rattle.gr_model_theorems.specs.Replies.{is_reply}
-use Rattle.gr_model.specs.Arrivals.{Publish, quieted_by}
+use Rattle.gr_model.specs.Arrivals.{asks_publish, asks_join, quieted_by, Request}
 use Rattle.gr_model_theorems.specs.Served.{is_dropped}
 use Rattle.gr_model_theorems.proofs.records.Records.{core}
-use Rattle.gr_model_theorems.proofs.records.RecordLines.{Skips, host_lines, receive_none, publish_some, marking_none}
+use Rattle.gr_model_theorems.proofs.records.RecordLines.{Skips, host_lines, receive_none, publish_some, marking_none, join_some}
 
 -- a test that passes no line of a call
 pub record IsForeign (f : Report → Bool) : Type 0 where
@@ -36,14 +37,17 @@ pub record IsForeign (f : Report → Bool) : Type 0 where
   pub already : (p n : ℕ) → f (line.Already p n) ≡ false
   pub gap : (p n next : ℕ) → f (line.Gap p n next) ≡ false
   pub exhausted : (p n : ℕ) → f (line.Exhausted p n) ≡ false
+  pub joined : (s p t : ℕ) → f (line.Joined s p t) ≡ false
+  pub already_joined : (s p : ℕ) → f (line.AlreadyJoined s p) ≡ false
+  pub exhausted_join : (s p : ℕ) → f (line.ExhaustedJoin s p) ≡ false
 
 -- no call writes a line of a dropped datagram
 pub drops_foreign : IsForeign is_dropped
-drops_foreign = record { got = λ s p t e. refl; horizon = λ s p t. refl; know = λ n a b p r js. refl; want = λ n a b p r. refl; expect = λ n a b p t. refl; mark = λ p t. refl; cut = λ p t. refl; logged = λ p n t. refl; already = λ p n. refl; gap = λ p n m. refl; exhausted = λ p n. refl }
+drops_foreign = record { got = λ s p t e. refl; horizon = λ s p t. refl; know = λ n a b p r js. refl; want = λ n a b p r. refl; expect = λ n a b p t. refl; mark = λ p t. refl; cut = λ p t. refl; logged = λ p n t. refl; already = λ p n. refl; gap = λ p n m. refl; exhausted = λ p n. refl; joined = λ s p t. refl; already_joined = λ s p. refl; exhausted_join = λ s p. refl }
 
 -- no call writes a line of a refused step or of bytes
 pub replies_foreign : IsForeign is_reply
-replies_foreign = record { got = λ s p t e. refl; horizon = λ s p t. refl; know = λ n a b p r js. refl; want = λ n a b p r. refl; expect = λ n a b p t. refl; mark = λ p t. refl; cut = λ p t. refl; logged = λ p n t. refl; already = λ p n. refl; gap = λ p n m. refl; exhausted = λ p n. refl }
+replies_foreign = record { got = λ s p t e. refl; horizon = λ s p t. refl; know = λ n a b p r js. refl; want = λ n a b p r. refl; expect = λ n a b p t. refl; mark = λ p t. refl; cut = λ p t. refl; logged = λ p n t. refl; already = λ p n. refl; gap = λ p n m. refl; exhausted = λ p n. refl; joined = λ s p t. refl; already_joined = λ s p. refl; exhausted_join = λ s p. refl }
 
 module _ (f : Report → Bool) (k : IsForeign f) where
   skips : Skips f
@@ -98,6 +102,14 @@ module _ (f : Report → Bool) (k : IsForeign f) where
       go false false true = one (line.Exhausted p number) (k.exhausted p number)
       go false false false = one (line.Logged p number (max (suc r.settled) now)) (k.logged p number (max (suc r.settled) now))
 
+  join_line_none : (s p now : ℕ) (r : Recorded) → filter f (join_line s p now r ∷ []) ≡ []
+  join_line_none s p now r = go (has_joined r.joined s) (nat_lt max_tick (max (suc r.settled) now))
+    where
+      go : (x y : Bool) → filter f ((if x then line.AlreadyJoined s p else (if y then line.ExhaustedJoin s p else line.Joined s p (max (suc r.settled) now))) ∷ []) ≡ []
+      go true y = one (line.AlreadyJoined s p) (k.already_joined s p)
+      go false true = one (line.ExhaustedJoin s p) (k.exhausted_join s p)
+      go false false = one (line.Joined s p (max (suc r.settled) now)) (k.joined s p (max (suc r.settled) now))
+
   wakes_none : (net : Net) (w : World) (b : ℕ) (ps : List ℕ) → filter f (in_turn (λ u p. wake_for net u b p) ps w).lines ≡ []
   unfolding wake_for_by
   wakes_none net w b [] = refl
@@ -108,20 +120,23 @@ module _ (f : Report → Bool) (k : IsForeign f) where
   all_wakes_none net w [] = refl
   all_wakes_none net w (b ∷ bs) = none_of_both (wake_all net w b).lines (in_turn (wake_all net) bs (wake_all net w b).world).lines (wakes_none net w b (numbers net.publishers)) (all_wakes_none net (wake_all net w b).world bs)
 
-  -- a publish writes none of the lines that no call writes
-  pub published_none : (net : Net) (w : World) (left : List Publish) → filter f (published_first net w left).lines ≡ []
-  unfolding publish_now_by
+  -- a publish or a join writes none of the lines that no call writes
+  pub published_none : (net : Net) (w : World) (left : List Request) → filter f (answered_first net w left).lines ≡ []
+  unfolding publish_now_by join_now_by
   published_none net w [] = refl
-  published_none net w (x ∷ left) =
-      let p = x.0 in
+  published_none net w (asks_publish p number e ∷ left) =
       let b = net.host p in
-      absorbed_none w b p (publish net p b w.clock x.1.0 x.1.1 (view_of w b p) (log_of w p))
-      (publish_some f net p b w.clock x.1.0 x.1.1 (view_of w b p) (log_of w p) skips ∙ publish_line_none p w.clock x.1.0 (core (log_of w p)))
+      absorbed_none w b p (publish net p b w.clock number e (view_of w b p) (log_of w p))
+      (publish_some f net p b w.clock number e (view_of w b p) (log_of w p) skips ∙ publish_line_none p w.clock number (core (log_of w p)))
+  published_none net w (asks_join s p ∷ left) =
+      let b = net.host p in
+      absorbed_none w b p (joining net p b w.clock s (view_of w b p) (log_of w p))
+      (join_some f net p b w.clock s (view_of w b p) (log_of w p) skips ∙ join_line_none s p w.clock (core (log_of w p)))
 
   -- waking hosts that were quiet writes none of the lines that no call writes
-  pub quieted_none : (net : Net) (hosted : List ℕ) (w : World) (left : List Publish) → filter f (quieted net hosted w left).lines ≡ []
+  pub quieted_none : (net : Net) (hosted : List ℕ) (w : World) (left : List Request) → filter f (quieted net hosted w left).lines ≡ []
   unfolding quieted_by
-  quieted_none net hosted w left = let s : Transition = published_first net w left in none_of_both s.lines (in_turn (wake_all net) hosted s.world).lines (published_none net w left) (all_wakes_none net s.world hosted)
+  quieted_none net hosted w left = let s : Transition = answered_first net w left in none_of_both s.lines (in_turn (wake_all net) hosted s.world).lines (published_none net w left) (all_wakes_none net s.world hosted)
 
   -- a delivery writes none of the lines that no call writes
   pub deliver_none : (net : Net) (w : World) (x : Frame) → filter f (deliver_frame net w x).lines ≡ []

@@ -14,7 +14,7 @@ use Rattle.gr_model.specs.Tree.{IsNet}
 use Rattle.gr_model.specs.World.{World, Transition, start, run_from_by}
 use Rattle.gr_model_calls.specs.OneNet.{next, run_all, run_from}
 use Rattle.gr_model.specs.Headline.{History, history, begin, is_sent}
-use Rattle.gr_model.specs.Arrivals.{Arrival, Publish, left_after}
+use Rattle.gr_model.specs.Arrivals.{Arrival, left_after, Request}
 use Rattle.gr_model_calls.specs.Fits.{WorldFits, StepIn, StepsIn}
 use Rattle.gr_model_calls.proofs.topology.Strays.{start_over}
 use Rattle.gr_model_theorems.specs.Spelled.{IsInLimits, NumbersIn, IsSpelled, WorldIn}
@@ -28,14 +28,14 @@ use Rattle.gr_model_theorems.proofs.sweep.RunsByRules.{run_by_rules}
 use Rattle.gr_model_theorems.proofs.headline.WithoutSweeps.{start_whole}
 use Rattle.gr_model_theorems.proofs.headline.AfterSweeps.{holds_where_sweeps_reach}
 use Rattle.gr_model_theorems.proofs.headline.SecondReaches.{sweeps_reach}
-use Rattle.gr_model_theorems.proofs.server.Serving.{AreBrokers, LeftIn, left_in, publishes_are_in, honest_at, Ready, turn, arrival_holds, steps_same}
+use Rattle.gr_model_theorems.proofs.server.Serving.{AreBrokers, LeftIn, left_in, requests_are_in, honest_at, Ready, turn, arrival_holds, steps_same}
 
 -- Processes where every call sees one net
 
-abbrev pub joint_comes : Net → List (List ℕ) → World → List (List Publish) → ℕ × Arrival → Transition
+abbrev pub joint_comes : Net → List (List ℕ) → World → List (List Request) → ℕ × Arrival → Transition
 joint_comes net = joint_comes_by (λ _. net) net
 
-abbrev pub joint_from : Net → List (List ℕ) → World → List (List Publish) → List (ℕ × Arrival) → List (List Report)
+abbrev pub joint_from : Net → List (List ℕ) → World → List (List Request) → List (ℕ × Arrival) → List (List Report)
 joint_from net = joint_from_by (λ _. net) net
 
 abbrev pub joint_reports : Net → List (List ℕ) → List Line → List (ℕ × Arrival) → List (List Report)
@@ -55,7 +55,7 @@ with_part P (y ∷ xs) (suc k) x h a = (a.0, with_part P xs k x h a.1)
 
 pub lefts_in : (net : Net) (processes : List (List ℕ)) (steps : List Line) → StepsIn net steps → NumbersIn steps → AllByRecursion (LeftIn net) (lefts_at_start net processes steps)
 lefts_in net [] steps i m = tt
-lefts_in net (hosted ∷ processes) steps i m = (publishes_are_in net hosted steps i m, lefts_in net processes steps i m)
+lefts_in net (hosted ∷ processes) steps i m = (requests_are_in net hosted steps i m, lefts_in net processes steps i m)
 
 -- an honest journal is one by the lines of frames alone
 pub honest_same : (xs ys : List Report) (turns : List (ℕ × Arrival)) (rs : List (List Report)) → filter is_sent xs ≡ filter is_sent ys → IsHonestJoint xs turns rs → IsHonestJoint ys turns rs
@@ -65,13 +65,13 @@ honest_same xs ys (x ∷ turns) (r ∷ rs) e h = (honest_at xs ys x.1 e h.0, hon
 
 module _ (net : Net) (n : IsNet net) (on : 1 ≤ net.quiet) (retry : 1 ≤ net.retry) (P : World → Type 0) (keeps : (u : World) (l : Line) → WorldFits net u → StepIn net l.step → IsInLimits l.step → P u → P (next net u l).world) (spelled : (u : World) → P u → AllByRecursion IsSpelled u.frames) (decodes : (f : Frame) → IsSpelled f → frame_decoded (frame_bytes f) ≡ Ok f) (processes : List (List ℕ)) (are : AllByRecursion (AreBrokers net) processes) where
   -- from where all stands on, the headline holds of what an honest joint journal leads to
-  pub holds_joint : (turns : List (ℕ × Arrival)) (w : World) (h : History) (lefts : List (List Publish)) → Ready net P w h → AllByRecursion (LeftIn net) lefts → AllByRecursion (λ (x : ℕ × Arrival). IsOfBytes x.1) turns
+  pub holds_joint : (turns : List (ℕ × Arrival)) (w : World) (h : History) (lefts : List (List Request)) → Ready net P w h → AllByRecursion (LeftIn net) lefts → AllByRecursion (λ (x : ℕ × Arrival). IsOfBytes x.1) turns
       → IsHonestJoint h.lines turns (joint_from net processes w lefts turns) → HoldsJoint net processes h lefts turns (joint_from net processes w lefts turns)
   unfolding joint_from_by run_from_by
   holds_joint [] w h lefts r l f x = holds_where_sweeps_reach net w h [] n (sweeps_reach net n on retry) on tt r.whole r.unknown
   holds_joint (x ∷ turns) w h lefts r l f honest =
       let hosted : List ℕ = brokers_of processes x.0 in
-      let left : List Publish = left_of lefts x.0 in
+      let left : List Request = left_of lefts x.0 in
       let steps : List Line = steps_at net hosted h.lines left x.1 in
       let t : Transition = joint_comes net processes w lefts x in
       let g : History = history net h steps (run_from net w steps) in
@@ -84,13 +84,13 @@ module _ (net : Net) (n : IsNet net) (on : 1 ≤ net.quiet) (retry : 1 ≤ net.r
       (subst (λ (u : World). IsHonestJoint g.lines turns (joint_from net processes u (lefts_after lefts x) turns)) y.does.world (honest_same (h.lines ++ t.lines) g.lines turns (joint_from net processes t.world (lefts_after lefts x) turns) y.same honest.1))))
 
   -- and each arrival does what its steps do
-  pub all_do_joint : (turns : List (ℕ × Arrival)) (w : World) (h : History) (lefts : List (List Publish)) (lines : List Report) → Ready net P w h → AllByRecursion (LeftIn net) lefts → AllByRecursion (λ (x : ℕ × Arrival). IsOfBytes x.1) turns
+  pub all_do_joint : (turns : List (ℕ × Arrival)) (w : World) (h : History) (lefts : List (List Request)) (lines : List Report) → Ready net P w h → AllByRecursion (LeftIn net) lefts → AllByRecursion (λ (x : ℕ × Arrival). IsOfBytes x.1) turns
       → filter is_sent h.lines ≡ filter is_sent lines → IsHonestJoint h.lines turns (joint_from net processes w lefts turns) → AllDoStepsJoint net processes w lines lefts turns
   unfolding joint_from_by
   all_do_joint [] w h lefts lines r l f e x = sym e ∙ r.whole.stands.sent
   all_do_joint (x ∷ turns) w h lefts lines r l f e honest =
       let hosted : List ℕ = brokers_of processes x.0 in
-      let left : List Publish = left_of lefts x.0 in
+      let left : List Request = left_of lefts x.0 in
       let steps : List Line = steps_at net hosted h.lines left x.1 in
       let t : Transition = joint_comes net processes w lefts x in
       let g : History = history net h steps (run_from net w steps) in

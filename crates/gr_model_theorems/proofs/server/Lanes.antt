@@ -33,7 +33,7 @@ use Rattle.gr_model.specs.Broker.{View, Log, empty_log, with_event, max_tick, le
 use Rattle.gr_model.specs.World.{World, Transition, view_of, log_of, unchanged, in_turn, absorbed, kept_events, wake_all_by, deliver_frame_by, publish_now_by, next_by, run_all_by, run_from_by}
 use Rattle.gr_model_calls.specs.OneNet.{run_from, served, Holds_from}
 use Rattle.gr_model.specs.Opening.{reopened_log, over_logs, reopened_line, publishers_at, begin_over, opened_for_by, opening_by}
-use Rattle.gr_model.specs.Arrivals.{joins_in, split_line, Arrival, datagram, quiet, Publish, publishes_of, left_after, at_moment, fits_broker, least_clash, clash_line, fault_number, publisher_of, submitted_in, is_hosted, show_hosted, takes_by, receives_by, notes_by, quieted_by, comes_by, served_from_by, arrived_by, served_by, reads_by, published_first_by}
+use Rattle.gr_model.specs.Arrivals.{asks_publish, asks_join, joins_in, split_line, Arrival, datagram, quiet, Publish, requests_of, left_after, at_moment, fits_broker, least_clash, clash_line, fault_number, publisher_of, submitted_in, is_hosted, show_hosted, takes_by, receives_by, notes_by, quieted_by, comes_by, served_from_by, arrived_by, served_by, reads_by, answered_first_by, Request}
 use Rattle.gr_model.specs.Tree.{IsNet}
 use Rattle.gr_model_calls.specs.Said.{said_at, TicksRise}
 use Rattle.gr_model_calls.specs.Fits.{StepsIn}
@@ -45,7 +45,7 @@ use Rattle.gr_model_theorems.specs.Lanes.{AllFollow, whole_logs, found_logs, pas
 use Rattle.gr_model_theorems.proofs.limits.Spelled.{IsSmall}
 use Rattle.gr_model_theorems.proofs.records.Recorded.{get_map}
 use Rattle.gr_model_calls.proofs.runs.Closed.{with_logs}
-use Rattle.gr_model_theorems.proofs.server.CutEvents.{with_events, past, SameLog, SameLogs, same_get, same_started, same_learn, SameTold, Follows, same_absorbed, same_unchanged, same_after, same_in_turn, same_wake_all, same_deliver, same_publish_now, same_next, same_run}
+use Rattle.gr_model_theorems.proofs.server.CutEvents.{with_events, past, SameLog, SameLogs, same_get, same_started, same_learn, SameTold, Follows, same_absorbed, same_unchanged, same_after, same_in_turn, same_wake_all, same_deliver, same_publish_now, same_next, same_run, same_join_now}
 use Rattle.gr_model_theorems.proofs.server.OverLogs.{headline_over_logs}
 use Rattle.gr_event.specs.declared.limits.TheConstants.{MAX_JOINS}
 use Rattle.gr_event.specs.Joins.{Split, first_split, Join, Joins, has_joined, AreJoins}
@@ -241,16 +241,17 @@ same_receives see net b (Ok f) w ls s = go (fits_broker net b f)
     go true = same_takes see net b f w ls s
     go false = same_unchanged w ls (line.DroppedStray b f.head.from f.head.to f.head.publisher ∷ []) s
 
-same_first : (see : View → Net) (net : Net) (left : List Publish) → Follows (λ w. published_first_by see net w left)
+same_first : (see : View → Net) (net : Net) (left : List Request) → Follows (λ w. answered_first_by see net w left)
 same_first see net [] w ls s = same_unchanged w ls [] s
-same_first see net (x ∷ left) w ls s = same_publish_now see net x.0 x.1.0 x.1.1 w ls s
+same_first see net (asks_publish p number e ∷ left) w ls s = same_publish_now see net p number e w ls s
+same_first see net (asks_join q p ∷ left) w ls s = same_join_now see net q p w ls s
 
-same_quieted : (see : View → Net) (net : Net) (hosted : List ℕ) (left : List Publish) → Follows (λ w. quieted_by see net hosted w left)
+same_quieted : (see : View → Net) (net : Net) (hosted : List ℕ) (left : List Request) → Follows (λ w. quieted_by see net hosted w left)
 unfolding quieted_by
 same_quieted see net hosted left w ls s =
     let wakes : World → Transition = in_turn (wake_all_by see net) hosted in
-    same_after (published_first_by see net w left) (published_first_by see net (with_logs w ls) left) wakes wakes (same_first see net left w ls s)
-    (λ ms r. same_in_turn (wake_all_by see net) (λ b. same_wake_all see net b) hosted (published_first_by see net w left).world ms r)
+    same_after (answered_first_by see net w left) (answered_first_by see net (with_logs w ls) left) wakes wakes (same_first see net left w ls s)
+    (λ ms r. same_in_turn (wake_all_by see net) (λ b. same_wake_all see net b) hosted (answered_first_by see net w left).world ms r)
 
 same_notes : (see : View → Net) (net : Net) (b : ℕ) (r : Result Note NoteFault) → Follows (λ w. notes_by see net w b r)
 unfolding notes_by
@@ -268,7 +269,7 @@ same_reads see net b bytes w ls s = go (begins_note bytes)
     go true = same_notes see net b (note_decoded bytes) w ls s
     go false = same_receives see net b (frame_decoded bytes) w ls s
 
-same_comes : (see : View → Net) (net : Net) (hosted : List ℕ) (left : List Publish) (a : Arrival) → Follows (λ w. comes_by see net hosted w left a)
+same_comes : (see : View → Net) (net : Net) (hosted : List ℕ) (left : List Request) (a : Arrival) → Follows (λ w. comes_by see net hosted w left a)
 unfolding comes_by
 same_comes see net hosted left (datagram b bytes moment) w ls s = same_reads see net b bytes (at_moment w moment) ls s
 same_comes see net hosted left (quiet moment) w ls s = same_quieted see net hosted left (at_moment w moment) ls s
@@ -290,7 +291,7 @@ same_show_hosted net hosted w ls s = ap (λ (shown : List Report). line.Frames (
     go [] = refl
     go (p ∷ ps) = ap₂ (λ (x y : List Report). x ++ y) (one p (get_or w.logs p empty_log) (get_or ls p empty_log) (same_get w.logs ls p s)) (go ps)
 
-same_served_from : (see : View → Net) (net : Net) (hosted : List ℕ) (left : List Publish) (arrivals : List Arrival) (w : World) (ls : List Log) → SameLogs w.logs ls → served_from_by see net hosted (with_logs w ls) left arrivals ≡ served_from_by see net hosted w left arrivals
+same_served_from : (see : View → Net) (net : Net) (hosted : List ℕ) (left : List Request) (arrivals : List Arrival) (w : World) (ls : List Log) → SameLogs w.logs ls → served_from_by see net hosted (with_logs w ls) left arrivals ≡ served_from_by see net hosted w left arrivals
 unfolding served_from_by
 same_served_from see net hosted left [] w ls s = ap (λ (r : List Report). r ∷ []) (same_show_hosted net hosted w ls s)
 same_served_from see net hosted left (a ∷ arrivals) w ls s =
@@ -322,7 +323,7 @@ same_stepped see net (l ∷ steps) w ls s =
     let k = same_next see net l w ls s in
     subst (λ (t : Transition). DifferInCut (run_all_by see net (next_by see net w l).world steps).world (run_all_by see net t.world steps).world) (sym k.is) (same_stepped see net steps (next_by see net w l).world k.logs k.same)
 
-same_arrived : (see : View → Net) (net : Net) (hosted : List ℕ) (left : List Publish) (arrivals : List Arrival) (w : World) (ls : List Log) → SameLogs w.logs ls → DifferInCut (arrived_by see net hosted w left arrivals) (arrived_by see net hosted (with_logs w ls) left arrivals)
+same_arrived : (see : View → Net) (net : Net) (hosted : List ℕ) (left : List Request) (arrivals : List Arrival) (w : World) (ls : List Log) → SameLogs w.logs ls → DifferInCut (arrived_by see net hosted w left arrivals) (arrived_by see net hosted (with_logs w ls) left arrivals)
 unfolding arrived_by
 same_arrived see net hosted left [] w ls s = differ w ls s
 same_arrived see net hosted left (a ∷ arrivals) w ls s =
@@ -346,8 +347,8 @@ served_lanes see net late lanes steps arrivals a =
     let k = opened_same see net late lanes a in
     let all : List ℕ = numbers net.brokers in
     let o : Transition = opening_by see net (numbers net.brokers) (found_logs lanes) in
-    ap (λ (t : Transition). t.lines ∷ served_from_by see net all t.world (publishes_of net all steps) arrivals) k.is
-    ∙ ap (λ (rs : List (List Report)). o.lines ∷ rs) (same_served_from see net all (publishes_of net all steps) arrivals o.world k.logs k.same)
+    ap (λ (t : Transition). t.lines ∷ served_from_by see net all t.world (requests_of net all steps) arrivals) k.is
+    ∙ ap (λ (rs : List (List Report)). o.lines ∷ rs) (same_served_from see net all (requests_of net all steps) arrivals o.world k.logs k.same)
 
 -- a run over reopened logs is the same whether the events that were cut are kept or not
 pub cut_events_silent : (see : View → Net) (net : Net) (late : List ℕ) (lanes : List (List Record)) → AllFollow late lanes → CutEventsSilent_by see net lanes
@@ -361,6 +362,6 @@ cut_events_silent see net late lanes a =
       lines = λ steps. lines_same see net late lanes steps a;
       served_same = λ steps arrivals. served_lanes see net late lanes steps arrivals a;
       arrived_same = λ steps arrivals.
-          let left : List Publish = publishes_of net all steps in
+          let left : List Request = requests_of net all steps in
           subst (λ (t : Transition). DifferInCut (arrived_by see net all o.world left arrivals) (arrived_by see net all t.world left arrivals)) (sym k.is) (same_arrived see net all left arrivals o.world k.logs k.same);
     }

@@ -12,7 +12,7 @@ use Rattle.gr_model.specs.World.{World, Transition, view_of, log_of, absorbed, u
 use Rattle.gr_model.specs.Opening.{reopened_log, over_logs, publishers_at, begin_over, opened_for_by, opening_by}
 use Rattle.gr_model_calls.specs.OneNet.{opened_for, opening, served}
 use Rattle.gr_model_theorems.specs.Found.{AreReopened}
-use Rattle.gr_model.specs.Arrivals.{Arrival, publishes_of, served_by}
+use Rattle.gr_model.specs.Arrivals.{Arrival, requests_of, served_by}
 use Rattle.gr_model_theorems.specs.Served.{IsOfBytes, IsHonestRun, AllDoSteps, HeadlineServed}
 use Rattle.gr_model_calls.specs.Edges.{GoesOverEdge}
 use Rattle.gr_model_theorems.specs.Spelled.{NumbersIn, ViewIn, LogIn, WorldIn}
@@ -25,7 +25,7 @@ use Rattle.gr_model_theorems.proofs.limits.Spelled.{IsSmall, deliver_in, next_in
 use Rattle.gr_model_theorems.proofs.server.Opening.{Opening, nothing, nothing_is_true, delivered_nothing, opening_turn, over_opening}
 use Rattle.gr_model_theorems.proofs.server.OverLogs.{all_opened, publishers_below, opened, opened_whole}
 use Rattle.gr_model_theorems.proofs.server.OpenedLines.{opened_tells}
-use Rattle.gr_model_theorems.proofs.server.Serving.{Ready, publishes_are_in, holds, all_do}
+use Rattle.gr_model_theorems.proofs.server.Serving.{Ready, requests_are_in, holds, all_do}
 
 -- The opening is within the limits
 
@@ -75,11 +75,11 @@ pub headline_served : (net : Net) (logs : List Log) (steps : List Line) (arrival
 unfolding served_by begin_over
 headline_served net logs steps arrivals n z on retry a i m fits honest = (
   opened_tells net logs n a,
-  holds net n on retry (WorldIn net.late) (λ u l f j k x. next_in net u l n z f j k x) (λ u x. x.frames) (λ f x. spelled_decodes (frame_bytes f) f x) arrivals (all_opened net logs).world (begin_over net logs (all_opened net logs).lines) (publishes_of net (numbers net.brokers) steps) (opened_ready net logs n z a) (publishes_are_in net (numbers net.brokers) steps i m) fits honest,
+  holds net n on retry (WorldIn net.late) (λ u l f j k x. next_in net u l n z f j k x) (λ u x. x.frames) (λ f x. spelled_decodes (frame_bytes f) f x) arrivals (all_opened net logs).world (begin_over net logs (all_opened net logs).lines) (requests_of net (numbers net.brokers) steps) (opened_ready net logs n z a) (requests_are_in net (numbers net.brokers) steps i m) fits honest,
 )
 
 -- each arrival at such a server does what its steps of a schedule do
-pub served_does : (net : Net) (logs : List Log) (steps : List Line) (arrivals : List Arrival) → IsNet net → IsSmall net → 1 ≤ net.quiet → 1 ≤ net.retry → AreReopened net logs → StepsIn net steps → NumbersIn steps → AllByRecursion IsOfBytes arrivals → IsHonestRun arrivals (served net (numbers net.brokers) logs steps arrivals) → AllDoSteps net (all_opened net logs).world (all_opened net logs).lines (publishes_of net (numbers net.brokers) steps) arrivals
+pub served_does : (net : Net) (logs : List Log) (steps : List Line) (arrivals : List Arrival) → IsNet net → IsSmall net → 1 ≤ net.quiet → 1 ≤ net.retry → AreReopened net logs → StepsIn net steps → NumbersIn steps → AllByRecursion IsOfBytes arrivals → IsHonestRun arrivals (served net (numbers net.brokers) logs steps arrivals) → AllDoSteps net (all_opened net logs).world (all_opened net logs).lines (requests_of net (numbers net.brokers) steps) arrivals
 unfolding served_by begin_over
 served_does net logs steps arrivals n z on retry a i m fits honest =
-    all_do net n on retry (WorldIn net.late) (λ u l f j k x. next_in net u l n z f j k x) (λ u x. x.frames) (λ f x. spelled_decodes (frame_bytes f) f x) arrivals (all_opened net logs).world (begin_over net logs (all_opened net logs).lines) (publishes_of net (numbers net.brokers) steps) (all_opened net logs).lines (opened_ready net logs n z a) (publishes_are_in net (numbers net.brokers) steps i m) fits refl honest
+    all_do net n on retry (WorldIn net.late) (λ u l f j k x. next_in net u l n z f j k x) (λ u x. x.frames) (λ f x. spelled_decodes (frame_bytes f) f x) arrivals (all_opened net logs).world (begin_over net logs (all_opened net logs).lines) (requests_of net (numbers net.brokers) steps) (all_opened net logs).lines (opened_ready net logs n z a) (requests_are_in net (numbers net.brokers) steps i m) fits refl honest

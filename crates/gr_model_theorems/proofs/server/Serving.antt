@@ -24,13 +24,13 @@ use Rattle.gr_sched.specs.declared.step.Step.TheVariants as step
 use Rattle.gr_sched.specs.declared.step.Line.{Line}
 use Rattle.gr_model.specs.declared.report.Report.{Report}
 use Rattle.gr_model.specs.declared.report.Report.TheVariants as line
-use Rattle.gr_model.specs.Net.{Net, keeps_horizon, numbers, numbers_from}
+use Rattle.gr_model.specs.Net.{Net, keeps_horizon, numbers, numbers_from, is_late}
 use Rattle.gr_model.specs.Broker.{max_tick}
 use Rattle.gr_model.specs.World.{World, Transition, view_of, log_of, unchanged, sent_lines, show, kept_events, next_by, run_from_by}
 use Rattle.gr_model_calls.specs.OneNet.{next, run_from, run_all, comes, served_from}
 use Rattle.gr_model_calls.specs.Edges.{GoesOverEdge}
-use Rattle.gr_model.specs.Arrivals.{Arrival, datagram, quiet, Publish, fault_number, publisher_of, takes_notes, submitted_in, is_hosted, is_scheduled, publishes_in, publishes_of, left_after, show_hosted, served_from_by}
-use Rattle.gr_model_theorems.specs.Served.{IsOfBytes, number_of_bytes, IsHonestAt, IsHonest, DoesSteps, AllDoSteps, as_line, publish_step, delivery_step, is_frame, submitted_step, note_step, datagram_step, steps_at, steps_of_arrival, dropped_as, unsubmitted_as, note_dropped_as, dropped_line, is_dropped, ArrivalTold, ArrivalHoldsAt, ShowHolds, HoldsServed}
+use Rattle.gr_model.specs.Arrivals.{asks_publish, asks_join, Arrival, datagram, quiet, Publish, fault_number, publisher_of, takes_notes, submitted_in, is_hosted, is_scheduled, requests_in, requests_of, left_after, show_hosted, served_from_by, Request}
+use Rattle.gr_model_theorems.specs.Served.{IsOfBytes, number_of_bytes, IsHonestAt, IsHonest, DoesSteps, AllDoSteps, as_line, request_step, delivery_step, is_frame, submitted_step, note_step, datagram_step, steps_at, steps_of_arrival, dropped_as, unsubmitted_as, note_dropped_as, dropped_line, is_dropped, ArrivalTold, ArrivalHoldsAt, ShowHolds, HoldsServed}
 use Rattle.gr_model_theorems.specs.Spelled.{IsInLimits, NumbersIn, IsSpelled}
 use Rattle.gr_model.specs.Headline.{History, history, is_record_line, is_doubt_line, is_sent, sent_number}
 use Rattle.gr_model_theorems.specs.Replies.{is_reply}
@@ -123,41 +123,45 @@ shown_parts net w = ap (λ (z : List Report). line.Frames (length w.frames) ∷ 
 
 -- Publishes that are left
 
--- the publisher is one of the topology, and the event within the limits
-abbrev pub PublishIn : Net → Publish → Type 0
-PublishIn net x = (x.0 < net.publishers) × IsEvent x.1.1
+-- the publisher is one of the topology, and the event within the limits; and who joins is late
+abbrev pub RequestIn : Net → Request → Type 0
+RequestIn net x = elim x as (λ _. Type 0) [ asks_publish p number e ↦ (p < net.publishers) × IsEvent e | asks_join s p ↦ (is_late net s ≡ true) × (p < net.publishers) ]
 
-abbrev pub LeftIn : Net → List Publish → Type 0
-LeftIn net left = AllByRecursion (PublishIn net) left
+abbrev pub LeftIn : Net → List Request → Type 0
+LeftIn net left = AllByRecursion (RequestIn net) left
 
-pub left_in : (net : Net) (left : List Publish) (a : Arrival) → LeftIn net left → LeftIn net (left_after left a)
+pub left_in : (net : Net) (left : List Request) (a : Arrival) → LeftIn net left → LeftIn net (left_after left a)
 left_in net left (datagram b bytes moment) l = l
 left_in net [] (quiet moment) l = tt
 left_in net (x ∷ left) (quiet moment) l = l.1
 
-both_in : (net : Net) (xs ys : List Publish) → LeftIn net xs → LeftIn net ys → LeftIn net (xs ++ ys)
+both_in : (net : Net) (xs ys : List Request) → LeftIn net xs → LeftIn net ys → LeftIn net (xs ++ ys)
 both_in net [] ys a b = b
 both_in net (x ∷ xs) ys a b = (a.0, both_in net xs ys a.1 b)
 
-line_publishes : (net : Net) (hosted : List ℕ) (k : ℕ) (s : Step) → StepIn net s → IsInLimits s → LeftIn net (publishes_in net hosted (record { number = k; step = s }))
-line_publishes net hosted k (step.Publish p number stop e) i m = go (is_scheduled net hosted p)
+line_requests : (net : Net) (hosted : List ℕ) (k : ℕ) (s : Step) → StepIn net s → IsInLimits s → LeftIn net (requests_in net hosted (record { number = k; step = s }))
+line_requests net hosted k (step.Publish p number stop e) i m = go (is_scheduled net hosted p)
   where
-    go : (c : Bool) → LeftIn net (if c then (p, (number, e)) ∷ [] else [])
+    go : (c : Bool) → LeftIn net (if c then asks_publish p number e ∷ [] else [])
     go true = ((i, m), tt)
     go false = tt
-line_publishes net hosted k (step.Clock now) i m = tt
-line_publishes net hosted k (step.Wake b) i m = tt
-line_publishes net hosted k (step.Deliver j) i m = tt
-line_publishes net hosted k (step.Crash b) i m = tt
-line_publishes net hosted k step.Sweep i m = tt
-line_publishes net hosted k step.Show i m = tt
-line_publishes net hosted k (step.Bytes j) i m = tt
-line_publishes net hosted k (step.Join q p) i m = tt
+line_requests net hosted k (step.Clock now) i m = tt
+line_requests net hosted k (step.Wake b) i m = tt
+line_requests net hosted k (step.Deliver j) i m = tt
+line_requests net hosted k (step.Crash b) i m = tt
+line_requests net hosted k step.Sweep i m = tt
+line_requests net hosted k step.Show i m = tt
+line_requests net hosted k (step.Bytes j) i m = tt
+line_requests net hosted k (step.Join q p) i m = go (is_hosted net hosted p)
+  where
+    go : (c : Bool) → LeftIn net (if c then asks_join q p ∷ [] else [])
+    go true = (i, tt)
+    go false = tt
 
 -- the publishes that are left for a server are within the limits where the steps are
-pub publishes_are_in : (net : Net) (hosted : List ℕ) (steps : List Line) → StepsIn net steps → NumbersIn steps → LeftIn net (publishes_of net hosted steps)
-publishes_are_in net hosted [] i m = tt
-publishes_are_in net hosted (l ∷ ls) i m = both_in net (publishes_in net hosted l) (publishes_of net hosted ls) (line_publishes net hosted l.number l.step i.0 m.0) (publishes_are_in net hosted ls i.1 m.1)
+pub requests_are_in : (net : Net) (hosted : List ℕ) (steps : List Line) → StepsIn net steps → NumbersIn steps → LeftIn net (requests_of net hosted steps)
+requests_are_in net hosted [] i m = tt
+requests_are_in net hosted (l ∷ ls) i m = both_in net (requests_in net hosted l) (requests_of net hosted ls) (line_requests net hosted l.number l.step i.0 m.0) (requests_are_in net hosted ls i.1 m.1)
 
 -- Steps of an arrival
 
@@ -192,9 +196,10 @@ wakes_in : (net : Net) (bs : List ℕ) → AreBrokers net bs → AreIn net (map 
 wakes_in net [] k = none_in net
 wakes_in net (b ∷ bs) k = in_front net (as_line (step.Wake b)) (map (λ c. as_line (step.Wake c)) bs) k.0 tt (wakes_in net bs k.1)
 
-publish_in : (net : Net) (left : List Publish) (ls : List Line) → LeftIn net left → AreIn net ls → AreIn net (publish_step left ++ ls)
+publish_in : (net : Net) (left : List Request) (ls : List Line) → LeftIn net left → AreIn net ls → AreIn net (request_step left ++ ls)
 publish_in net [] ls l a = a
-publish_in net (x ∷ left) ls l a = in_front net (as_line (step.Publish x.0 x.1.0 None x.1.1)) ls l.0.0 l.0.1 a
+publish_in net (asks_publish p number e ∷ left) ls l a = in_front net (as_line (step.Publish p number None e)) ls l.0.0 l.0.1 a
+publish_in net (asks_join q p ∷ left) ls l a = in_front net (as_line (step.Join q p)) ls l.0 tt a
 
 submitted_is : (net : Net) (b : ℕ) (n : Note) (x : Publish) → submitted_in net b n ≡ Some x → (n ≡ Submit x.0 x.1.0 x.1.1) × (x.0 < net.publishers)
 submitted_is net b (Submit p k e) x h = go (takes_notes net b p) refl h
@@ -222,7 +227,7 @@ note_in net b bytes fits = go (note_decoded bytes) refl
     go (Err fault) d = none_in net
     go (Ok n) d = submit n (submitted_in net b n) d refl
 
-arrival_in : (net : Net) (hosted : List ℕ) (lines : List Report) (left : List Publish) (a : Arrival) → AreBrokers net hosted → LeftIn net left → IsOfBytes a → AreIn net (steps_at net hosted lines left a)
+arrival_in : (net : Net) (hosted : List ℕ) (lines : List Report) (left : List Request) (a : Arrival) → AreBrokers net hosted → LeftIn net left → IsOfBytes a → AreIn net (steps_at net hosted lines left a)
 arrival_in net hosted lines left (datagram b bytes moment) k l fits = in_front net (as_line (step.Clock (min moment max_tick))) (datagram_step net lines b bytes) tt (omega arith) (go (begins_note bytes))
   where
     delivered : (c : Bool) → AreIn net (if c then delivery_step (number_of_bytes b bytes lines) else [])
@@ -235,7 +240,7 @@ arrival_in net hosted lines left (datagram b bytes moment) k l fits = in_front n
     ])
     go true = note_in net b bytes fits
     go false = delivered (is_frame (frame_decoded bytes))
-arrival_in net hosted lines left (quiet moment) k l fits = in_front net (as_line (step.Clock (min moment max_tick))) (publish_step left ++ map (λ b. as_line (step.Wake b)) hosted) tt (omega arith) (publish_in net left (map (λ b. as_line (step.Wake b)) hosted) l (wakes_in net hosted k))
+arrival_in net hosted lines left (quiet moment) k l fits = in_front net (as_line (step.Clock (min moment max_tick))) (request_step left ++ map (λ b. as_line (step.Wake b)) hosted) tt (omega arith) (publish_in net left (map (λ b. as_line (step.Wake b)) hosted) l (wakes_in net hosted k))
 
 -- An honest journal
 
@@ -319,7 +324,7 @@ module _ (net : Net) (n : IsNet net) (on : 1 ≤ net.quiet) (retry : 1 ≤ net.r
   limits_run w [] f i x = x
   limits_run w (l ∷ ls) f i x = limits_run (next net w l).world ls (next_kept net w l n f i.steps.0).fits (record { steps = i.steps.1; numbers = i.numbers.1 }) (keeps w l f i.steps.0 i.numbers.0 x)
 
-  arrival_does : (hosted : List ℕ) (w : World) (h : History) (left : List Publish) (a : Arrival) → Ready net P w h → IsHonestAt h.lines a → Does net hosted w left a (steps_at net hosted h.lines left a)
+  arrival_does : (hosted : List ℕ) (w : World) (h : History) (left : List Request) (a : Arrival) → Ready net P w h → IsHonestAt h.lines a → Does net hosted w left a (steps_at net hosted h.lines left a)
   arrival_does hosted w h left (quiet moment) r x = quiet_does net hosted w left moment h.lines
   arrival_does hosted w h left (datagram b bytes moment) r x = elim (cases_Bool (begins_note bytes)) [
     | inl noted ↦ note_does net hosted w left b moment bytes h.lines noted
@@ -335,13 +340,13 @@ module _ (net : Net) (n : IsNet net) (on : 1 ≤ net.quiet) (retry : 1 ≤ net.r
   ]
 
   -- an arrival, what stands after it, and the frames told on the way
-  pub record Turn (hosted : List ℕ) (w : World) (h : History) (left : List Publish) (a : Arrival) : Type 0 where
+  pub record Turn (hosted : List ℕ) (w : World) (h : History) (left : List Request) (a : Arrival) : Type 0 where
     pub are_in : AreIn net (steps_at net hosted h.lines left a)
     pub does : Does net hosted w left a (steps_at net hosted h.lines left a)
     pub ready : Ready net P (run_all net w (steps_at net hosted h.lines left a)).world (history net h (steps_at net hosted h.lines left a) (run_from net w (steps_at net hosted h.lines left a)))
     pub same : (let t : Transition = comes net hosted w left a in filter is_sent (h.lines ++ t.lines)) ≡ filter is_sent (history net h (steps_at net hosted h.lines left a) (run_from net w (steps_at net hosted h.lines left a))).lines
 
-  pub turn : (hosted : List ℕ) (w : World) (h : History) (left : List Publish) (a : Arrival) → AreBrokers net hosted → Ready net P w h → LeftIn net left → IsOfBytes a → IsHonestAt h.lines a → Turn hosted w h left a
+  pub turn : (hosted : List ℕ) (w : World) (h : History) (left : List Request) (a : Arrival) → AreBrokers net hosted → Ready net P w h → LeftIn net left → IsOfBytes a → IsHonestAt h.lines a → Turn hosted w h left a
   turn hosted w h left a k r l f x =
       let steps = steps_at net hosted h.lines left a in
       let i = arrival_in net hosted h.lines left a k l f in
@@ -367,7 +372,7 @@ module _ (net : Net) (n : IsNet net) (on : 1 ≤ net.quiet) (retry : 1 ≤ net.r
       }
 
   -- what is left of the journal is honest after the steps
-  pub still_honest : (w : World) (h : History) (left : List Publish) (a : Arrival) (arrivals : List Arrival) → Turn (numbers net.brokers) w h left a → IsHonest h.lines (a ∷ arrivals) (served_from net (numbers net.brokers) w left (a ∷ arrivals)) →
+  pub still_honest : (w : World) (h : History) (left : List Request) (a : Arrival) (arrivals : List Arrival) → Turn (numbers net.brokers) w h left a → IsHonest h.lines (a ∷ arrivals) (served_from net (numbers net.brokers) w left (a ∷ arrivals)) →
       IsHonest (history net h (steps_of_arrival net h.lines left a) (run_from net w (steps_of_arrival net h.lines left a))).lines arrivals (served_from net (numbers net.brokers) (run_all net w (steps_of_arrival net h.lines left a)).world (left_after left a) arrivals)
   unfolding served_from_by
   still_honest w h left a arrivals y x =
@@ -376,7 +381,7 @@ module _ (net : Net) (n : IsNet net) (on : 1 ≤ net.quiet) (retry : 1 ≤ net.r
       let g : History = history net h steps (run_from net w steps) in
       subst (λ z. IsHonest g.lines arrivals (served_from net (numbers net.brokers) z (left_after left a) arrivals)) y.does.world (honest_same (h.lines ++ t.lines) g.lines arrivals (served_from net (numbers net.brokers) t.world (left_after left a) arrivals) y.same x.1)
 
-  arrival_told : (hosted : List ℕ) (w : World) (h : History) (left : List Publish) (a : Arrival) → Ready net P w h → Turn hosted w h left a → (let t : Transition = comes net hosted w left a in ArrivalTold net h a t.lines)
+  arrival_told : (hosted : List ℕ) (w : World) (h : History) (left : List Request) (a : Arrival) → Ready net P w h → Turn hosted w h left a → (let t : Transition = comes net hosted w left a in ArrivalTold net h a t.lines)
   arrival_told hosted w h left a r y =
       let steps = steps_at net hosted h.lines left a in
       let t = comes net hosted w left a in
@@ -391,7 +396,7 @@ module _ (net : Net) (n : IsNet net) (on : 1 ≤ net.quiet) (retry : 1 ≤ net.r
       }
 
   -- the headline holds of one arrival, and after it what holds of the history then
-  pub arrival_holds : (hosted : List ℕ) (Rest : History → Type 0) (w : World) (h : History) (left : List Publish) (a : Arrival) → Ready net P w h → Turn hosted w h left a → Rest (history net h (steps_at net hosted h.lines left a) (run_from net w (steps_at net hosted h.lines left a)))
+  pub arrival_holds : (hosted : List ℕ) (Rest : History → Type 0) (w : World) (h : History) (left : List Request) (a : Arrival) → Ready net P w h → Turn hosted w h left a → Rest (history net h (steps_at net hosted h.lines left a) (run_from net w (steps_at net hosted h.lines left a)))
       → (let t : Transition = comes net hosted w left a in ArrivalHoldsAt net hosted h left a t.lines Rest)
   arrival_holds hosted Rest w h left a r y rest =
       let steps = steps_at net hosted h.lines left a in
@@ -404,7 +409,7 @@ module _ (net : Net) (n : IsNet net) (on : 1 ≤ net.quiet) (retry : 1 ≤ net.r
       }
 
   -- from where all stands on, the headline holds of what an honest journal leads to
-  pub holds : (arrivals : List Arrival) (w : World) (h : History) (left : List Publish) → Ready net P w h → LeftIn net left → AllByRecursion IsOfBytes arrivals → IsHonest h.lines arrivals (served_from net (numbers net.brokers) w left arrivals) → HoldsServed net h left arrivals (served_from net (numbers net.brokers) w left arrivals)
+  pub holds : (arrivals : List Arrival) (w : World) (h : History) (left : List Request) → Ready net P w h → LeftIn net left → AllByRecursion IsOfBytes arrivals → IsHonest h.lines arrivals (served_from net (numbers net.brokers) w left arrivals) → HoldsServed net h left arrivals (served_from net (numbers net.brokers) w left arrivals)
   unfolding served_from_by next_by run_from_by
   holds [] w h left r l f x =
       subst (λ (z : List Report). ShowHolds net h z) (sym (shown net w n))
@@ -419,7 +424,7 @@ module _ (net : Net) (n : IsNet net) (on : 1 ≤ net.quiet) (retry : 1 ≤ net.r
       (subst (λ z. HoldsServed net g (left_after left a) arrivals (served_from net (numbers net.brokers) z (left_after left a) arrivals)) (sym y.does.world) (holds arrivals (run_all net w steps).world g (left_after left a) y.ready (left_in net left a l) f.1 (still_honest w h left a arrivals y x)))
 
   -- the steps are the same by the lines of frames alone
-  pub steps_same : (hosted : List ℕ) (xs ys : List Report) (left : List Publish) (a : Arrival) → filter is_sent xs ≡ filter is_sent ys → steps_at net hosted xs left a ≡ steps_at net hosted ys left a
+  pub steps_same : (hosted : List ℕ) (xs ys : List Report) (left : List Request) (a : Arrival) → filter is_sent xs ≡ filter is_sent ys → steps_at net hosted xs left a ≡ steps_at net hosted ys left a
   steps_same hosted xs ys left (quiet moment) e = refl
   steps_same hosted xs ys left (datagram b bytes moment) e =
       let same : number_of_bytes b bytes xs ≡ number_of_bytes b bytes ys = number_sent b bytes xs ∙ (ap (number_of_bytes b bytes) e ∙ sym (number_sent b bytes ys)) in
@@ -429,7 +434,7 @@ module _ (net : Net) (n : IsNet net) (on : 1 ≤ net.quiet) (retry : 1 ≤ net.r
       ])) same
 
   -- from where all stands on, each arrival of an honest journal does what its steps do
-  pub all_do : (arrivals : List Arrival) (w : World) (h : History) (left : List Publish) (lines : List Report) → Ready net P w h → LeftIn net left → AllByRecursion IsOfBytes arrivals → filter is_sent h.lines ≡ filter is_sent lines → IsHonest h.lines arrivals (served_from net (numbers net.brokers) w left arrivals) → AllDoSteps net w lines left arrivals
+  pub all_do : (arrivals : List Arrival) (w : World) (h : History) (left : List Request) (lines : List Report) → Ready net P w h → LeftIn net left → AllByRecursion IsOfBytes arrivals → filter is_sent h.lines ≡ filter is_sent lines → IsHonest h.lines arrivals (served_from net (numbers net.brokers) w left arrivals) → AllDoSteps net w lines left arrivals
   unfolding served_from_by
   all_do [] w h left lines r l f e x = sym e ∙ r.whole.stands.sent
   all_do (a ∷ arrivals) w h left lines r l f e x =
