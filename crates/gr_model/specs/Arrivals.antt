@@ -3,7 +3,8 @@ use Rattle.std.specs.Prelude.{ℕ, ◌&&◌, ◌++◌, min, max, not, Bool, true
 use Rattle.std.specs.Prelude.{◌∷◌, length, Option, Some, None, Result, Ok, Err, flat_map}
 use Rattle.std.specs.List.{list_any}
 use Rattle.gr_event.specs.declared.event.Event.{Event}
-use Rattle.gr_event.specs.Joins.{Joins, Split, first_split}
+use Rattle.gr_event.specs.Joins.{Joins, first_split}
+use Rattle.gr_event.specs.declared.join.Split.{Split}
 use Rattle.gr_frame.specs.declared.Body.TheVariants as body
 use Rattle.gr_frame.specs.declared.Frame.{Frame}
 pub use Rattle.gr_frame.specs.Fault.{fault_number}

@@ -13,7 +13,8 @@ use Rattle.gr_frame.specs.declared.Body.TheVariants as body
 use Rattle.gr_frame.specs.declared.Head.{Head}
 use Rattle.gr_frame.specs.declared.Frame.{Frame}
 use Rattle.gr_frame.specs.Bytes.{head_size, known_run_size, wanted_run_size, cut_frames}
-use Rattle.gr_event.specs.Joins.{Join, longer, splits}
+use Rattle.gr_event.specs.Joins.{longer, splits}
+use Rattle.gr_event.specs.declared.join.Join.{Join}
 use Rattle.gr_pubend.specs.declared.answers.Joined.{Joined}
 use Rattle.gr_pubend.specs.declared.answers.Joined.TheVariants as joins
 use Rattle.gr_curio.specs.declared.asks.Moment.TheVariants.{Never}

@@ -4,6 +4,7 @@ pub mod AsOne
 pub mod Always
 pub mod Over
 pub mod Serving
+pub mod Telling
 pub mod Served
 pub mod Joint
 pub mod Late

@@ -6,12 +6,12 @@ use Rattle.gr_model.specs.declared.report.Report.{Report}
 use Rattle.gr_model.specs.Net.{Net}
 use Rattle.gr_model.specs.Broker.{View, seen}
 use Rattle.gr_model.specs.World.{World, Transition, start, sent_lines}
-use Rattle.gr_model.specs.Headline.{History, Delivered, InOrder, is_sent}
+use Rattle.gr_model.specs.Headline.{History, Delivered, InOrder, recorded_net, is_sent}
 use Rattle.gr_model.specs.Arrivals.{Arrival, requests_of, left_after, comes_by, Request}
 use Rattle.gr_model_calls.specs.OneNet.{last_net}
 use Rattle.gr_model_theorems.specs.Spelled.{LateIn, NumbersIn}
 use Rattle.gr_model_theorems.specs.Statements.{IsAskedRun}
-use Rattle.gr_model_theorems.specs.Served.{IsOfBytes, IsHonestAt, steps_at, DoesStepsAt, ArrivalHoldsAt}
+use Rattle.gr_model_theorems.specs.Served.{IsOfBytes, IsHonestAt, steps_at, DoesStepsAt, ArrivalHoldsAt_by}
 
 -- Processes are lists of their brokers, and what comes is an arrival with the number of its process
 
@@ -83,15 +83,21 @@ pub record IsJointRun (net : Net) (processes : List (List ℕ)) (steps : List Li
   pub bytes : AllByRecursion (λ (x : ℕ × Arrival). IsOfBytes x.1) turns
   pub honest : IsHonestJoint [] turns (joint_reports net processes steps turns)
 
--- of each arrival the headline holds, as of its steps of a schedule
+-- of each arrival the headline holds, as of its steps of a schedule; whom an event concerns is asked of a net that the
+-- history shows
+abbrev pub HoldsJoint_by : (History → Net) → Net → List (List ℕ) → History → List (List Request) → List (ℕ × Arrival)
+    → List (List Report) → Type 0
+HoldsJoint_by at net processes h lefts [] [] = Delivered (at h) h × InOrder (at h) h
+HoldsJoint_by at net processes h lefts [] (r ∷ rs) = ⊥
+HoldsJoint_by at net processes h lefts (x ∷ turns) [] = ⊥
+HoldsJoint_by at net processes h lefts (x ∷ turns) (r ∷ rs) =
+    ArrivalHoldsAt_by at net (brokers_of processes x.0) h (left_of lefts x.0) x.1 r
+    (λ g. HoldsJoint_by at net processes g (lefts_after lefts x) turns rs)
+
+-- by the joins recorded so far
 abbrev pub HoldsJoint : Net → List (List ℕ) → History → List (List Request) → List (ℕ × Arrival) → List (List Report)
     → Type 0
-HoldsJoint net processes h lefts [] [] = Delivered net h × InOrder net h
-HoldsJoint net processes h lefts [] (r ∷ rs) = ⊥
-HoldsJoint net processes h lefts (x ∷ turns) [] = ⊥
-HoldsJoint net processes h lefts (x ∷ turns) (r ∷ rs) =
-    ArrivalHoldsAt net (brokers_of processes x.0) h (left_of lefts x.0) x.1 r
-    (λ g. HoldsJoint net processes g (lefts_after lefts x) turns rs)
+HoldsJoint net = HoldsJoint_by (recorded_net net) net
 
 -- and each leaves what its steps leave, by the rules; the lines of frames tell all frames, numbered 1, 2, 3 and so on
 abbrev pub AllDoStepsJoint : Net → List (List ℕ) → World → List Report → List (List Request) → List (ℕ × Arrival)

@@ -1,5 +1,5 @@
 -- Logs that code opens: the records of each lane make the log with all its events; the events past its cut are found
-use Rattle.std.specs.Prelude.{length, ◌≡◌, ℕ, ◌≤◌, ◌^◌, nat_lt, List, map, filter}
+use Rattle.std.specs.Prelude.{length, ◌≡◌, ℕ, ◌≤◌, ◌^◌, nat_lt, List, [], map, filter}
 use Rattle.std.specs.List.{AllByRecursion}
 use Rattle.gr_publog.specs.declared.record.Record.{Record}
 use Rattle.gr_publog.specs.State.{first_standing, Follow}
@@ -11,12 +11,12 @@ use Rattle.gr_model.specs.Net.{Net, numbers}
 use Rattle.gr_model.specs.Broker.{View, Log, seen}
 use Rattle.gr_model.specs.World.{World, Transition, run_all_by, run_from_by}
 use Rattle.gr_model.specs.Opening.{begin_over, opening_by}
-use Rattle.gr_model.specs.Headline.{Holds_from}
+use Rattle.gr_model.specs.Headline.{Holds_from, recorded_net}
 use Rattle.gr_model.specs.Arrivals.{Arrival, requests_of, served, served_by, arrived_by}
 use Rattle.gr_model_theorems.specs.Spelled.{LateIn, NumbersIn}
-use Rattle.gr_model_theorems.specs.Statements.{IsAskedRun, started_over, lines_over, served_net}
+use Rattle.gr_model_theorems.specs.Statements.{IsAskedRun, started_over, lines_over, over_net, served_net}
 use Rattle.gr_event.specs.declared.limits.TheConstants.{MAX_JOINS}
-use Rattle.gr_model_theorems.specs.Served.{IsOfBytes, IsHonestRun, HeadlineServed}
+use Rattle.gr_model_theorems.specs.Served.{IsOfBytes, IsHonestRun, HeadlineServed_by}
 
 -- one list of records for each publisher; in each list every record may follow those before it, where these
 -- subscribers may join
@@ -95,7 +95,7 @@ lanes_net net lanes steps arrivals = served_net net (found_logs lanes) steps arr
 -- A server over lanes: so does its headline
 abbrev pub HoldsServedLanes : Net → List (List Record) → List Line → List Arrival → Type 0
 HoldsServedLanes net lanes steps arrivals =
-    HeadlineServed (lanes_net net lanes steps arrivals) (found_logs lanes) steps arrivals
+    HeadlineServed_by (recorded_net net) (over_net net (found_logs lanes) []) net (found_logs lanes) steps arrivals
     (served net (numbers net.brokers) (whole_logs lanes) steps arrivals)
 
 -- Whatever comes, and whatever net each call sees, events that were cut change nothing: neither the lines, nor the

@@ -20,13 +20,14 @@ use Rattle.gr_model.specs.Broker.{Log, max_tick}
 use Rattle.gr_model.specs.Opening.{publishers_at, begin_over}
 use Rattle.gr_model_theorems.specs.Found.{told_at_opening}
 use Rattle.gr_model.specs.World.{World, Transition, sent_lines}
-use Rattle.gr_model_calls.specs.OneNet.{run_from, run_all, comes, Holds_from}
+use Rattle.gr_model_calls.specs.OneNet.{run_from, run_all, comes}
 use Rattle.gr_model_theorems.specs.Obeys.{StepsObey}
 use Rattle.gr_model_theorems.specs.ByRules.{RunByRules}
 use Rattle.gr_model.specs.Arrivals.{Arrival, datagram, quiet, Publish, Request, asks_publish, asks_join, requests_of}
 use Rattle.gr_model.specs.Arrivals.{left_after, fault_number}
 use Rattle.gr_model.specs.Arrivals.{publisher_of, submitted_in}
 use Rattle.gr_model.specs.Headline.{History, history, is_record_line, is_doubt_line, is_sent, sent_number}
+use Rattle.gr_model.specs.Headline.{Holds_from_by}
 use Rattle.gr_model.specs.Headline.{sent_count}
 use Rattle.gr_model_theorems.specs.Replies.{frame_of_line, is_reply}
 
@@ -181,43 +182,58 @@ pub record ArrivalTold (net : Net) (h : History) (a : Arrival) (ls : List Report
   pub unreplied : filter is_reply ls ≡ []
   pub numbered : map sent_number (filter is_sent ls) ≡ numbers_from (suc (sent_count h.lines)) (sent_count ls)
 
--- Of one arrival at these brokers, where Rest is to hold of the history after its steps
-pub record ArrivalHoldsAt (net : Net) (hosted : List ℕ) (h : History) (left : List Request) (a : Arrival)
-    (r : List Report) (Rest : History → Type 0) : Type 0 where
+-- Of one arrival at these brokers, where Rest is to hold of the history after its steps; whom an event concerns is asked
+-- of a net that the history shows
+pub record ArrivalHoldsAt_by (at : History → Net) (net : Net) (hosted : List ℕ) (h : History) (left : List Request)
+    (a : Arrival) (r : List Report) (Rest : History → Type 0) : Type 0 where
   pub told : ArrivalTold net h a r
   -- its lines are those of its steps, and then that of a datagram that is dropped
   pub parts : List (List Report)
   pub lines : r ≡ joined parts ++ dropped_line net a
   -- of its steps the headline holds
-  pub steps : Holds_from net h (steps_at net hosted h.lines left a) parts
+  pub steps : Holds_from_by at net h (steps_at net hosted h.lines left a) parts
   pub rest : Rest (history net h (steps_at net hosted h.lines left a) parts)
+
+-- At the end all is shown, and nothing else is told
+pub record ShowHolds_by (at : History → Net) (net : Net) (h : History) (r : List Report) : Type 0 where
+  pub shown : r ≡ filter is_record_line r ++ filter is_doubt_line r
+  pub steps : Holds_from_by at net h (as_line step.Show ∷ []) (r ∷ [])
+
+-- So it is of each arrival, and of the end
+abbrev pub HoldsServed_by : (History → Net) → Net → History → List Request → List Arrival → List (List Report) → Type 0
+HoldsServed_by at net h left [] [] = ⊥
+HoldsServed_by at net h left [] (r ∷ []) = ShowHolds_by at net h r
+HoldsServed_by at net h left [] (r ∷ (s ∷ rs)) = ⊥
+HoldsServed_by at net h left (a ∷ arrivals) [] = ⊥
+HoldsServed_by at net h left (a ∷ arrivals) (r ∷ rs) =
+    ArrivalHoldsAt_by at net (numbers net.brokers) h left a r (λ g.
+    HoldsServed_by at net g (left_after left a) arrivals rs)
+
+-- The headline of a run of all brokers over a journal. The opening tells each log that is not empty and what the
+-- subscribers at its host get at once by a net of its own, and nothing else; then all of the above. The record begins
+-- with what the logs say, and each subscriber starts at the cut that was found.
+abbrev pub HeadlineServed_by : (History → Net) → Net → Net → List Log → List Line → List Arrival → List (List Report)
+    → Type 0
+HeadlineServed_by at first net logs steps arrivals [] = ⊥
+HeadlineServed_by at first net logs steps arrivals (r ∷ rs) =
+    (r ≡ flat_map (told_at_opening first logs) (publishers_at net (numbers net.brokers)))
+    × HoldsServed_by at net (begin_over net logs r) (requests_of net (numbers net.brokers) steps) arrivals rs
+
+-- The same where it is asked of one net
+
+abbrev pub ArrivalHoldsAt : Net → List ℕ → History → List Request → Arrival → List Report → (History → Type 0)
+    → Type 0
+ArrivalHoldsAt net = ArrivalHoldsAt_by (λ _. net) net
 
 -- where all brokers are hosted
 abbrev pub ArrivalHolds : Net → History → List Request → Arrival → List Report → (History → Type 0) → Type 0
 ArrivalHolds net h left a r Rest = ArrivalHoldsAt net (numbers net.brokers) h left a r Rest
 
--- At the end all is shown, and nothing else is told
-pub record ShowHolds (net : Net) (h : History) (r : List Report) : Type 0 where
-  pub shown : r ≡ filter is_record_line r ++ filter is_doubt_line r
-  pub steps : Holds_from net h (as_line step.Show ∷ []) (r ∷ [])
+abbrev pub ShowHolds : Net → History → List Report → Type 0
+ShowHolds net = ShowHolds_by (λ _. net) net
 
--- So it is of each arrival, and of the end
 abbrev pub HoldsServed : Net → History → List Request → List Arrival → List (List Report) → Type 0
-HoldsServed net h left [] [] = ⊥
-HoldsServed net h left [] (r ∷ []) = ShowHolds net h r
-HoldsServed net h left [] (r ∷ (s ∷ rs)) = ⊥
-HoldsServed net h left (a ∷ arrivals) [] = ⊥
-HoldsServed net h left (a ∷ arrivals) (r ∷ rs) =
-    ArrivalHolds net h left a r (λ g. HoldsServed net g (left_after left a) arrivals rs)
-
--- The headline of a run of all brokers over a journal. The opening tells each log that is not empty and what the
--- subscribers at its host get at once, and nothing else; then all of the above. The record begins with what the logs
--- say, and each subscriber starts at the cut that was found.
-abbrev pub HeadlineServed : Net → List Log → List Line → List Arrival → List (List Report) → Type 0
-HeadlineServed net logs steps arrivals [] = ⊥
-HeadlineServed net logs steps arrivals (r ∷ rs) =
-    (r ≡ flat_map (told_at_opening net logs) (publishers_at net (numbers net.brokers)))
-    × HoldsServed net (begin_over net logs r) (requests_of net (numbers net.brokers) steps) arrivals rs
+HoldsServed net = HoldsServed_by (λ _. net) net
 
 -- the journal of such a run is honest; the first of its reports is the opening
 abbrev pub IsHonestRun : List Arrival → List (List Report) → Type 0

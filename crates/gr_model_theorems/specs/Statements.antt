@@ -29,7 +29,7 @@ use Rattle.gr_model_theorems.specs.Spelled.{LateIn, NumbersIn}
 use Rattle.gr_model_theorems.specs.Settles.{is_accepted}
 use Rattle.gr_model_theorems.specs.Found.{AreReopened, told_at_opening}
 use Rattle.gr_model_theorems.specs.ByRules.{RunsOver}
-use Rattle.gr_model_theorems.specs.Served.{IsOfBytes, IsHonestRun, AllDoSteps, HeadlineServed}
+use Rattle.gr_model_theorems.specs.Served.{IsOfBytes, IsHonestRun, AllDoSteps, HeadlineServed_by}
 
 -- Runs
 
@@ -219,10 +219,10 @@ served_end net logs steps arrivals =
 abbrev pub served_net : Net → List Log → List Line → List Arrival → Net
 served_net net logs steps arrivals = last_net net (served_end net logs steps arrivals)
 
--- what a server of all brokers reports meets the headline
+-- what a server of all brokers reports meets the headline, by the joins recorded so far
 abbrev pub MeetsHeadlineServed : Net → List Log → List Line → List Arrival → Type 0
 MeetsHeadlineServed net logs steps arrivals =
-    HeadlineServed (served_net net logs steps arrivals) logs steps arrivals
+    HeadlineServed_by (recorded_net net) (over_net net logs []) net logs steps arrivals
     (served net (numbers net.brokers) logs steps arrivals)
 
 -- each arrival does its steps on that net; and what is reported there, and the world in the end, are the same

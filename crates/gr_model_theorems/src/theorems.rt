@@ -3,8 +3,8 @@
 //!
 //! In a run each call sees whom an event concerns by the joins that its broker holds. Every run is the run of all calls
 //! on one net, in which a late subscriber wants what is past its join: by the joins that the logs have in the end. The
-//! headline speaks of the joins recorded so far; where a theorem speaks of one net, it is `joined_net`, or `over_net`,
-//! `served_net` and `joint_net` where logs were found, at a server and of several processes.
+//! headline speaks of the joins recorded so far, also over logs that were found, of a server and of processes side by
+//! side; where a theorem speaks of one net, it is `joined_net`, or `over_net`, `served_net` and `joint_net` there.
 
 ghost use Rattle.std.specs.Prelude.{List, [], ℕ, false, Some, None, ◌≡◌, ◌<◌, ◌≤◌, length};
 ghost use Rattle.gr_event.specs.declared.limits.TheConstants.{MAX_JOINS};
@@ -289,8 +289,8 @@ pub fn one_order_over_lanes()
 pub fn headline_joint()
     ensures headline { (net : Net) (processes : List (List ℕ)) (steps : List Line) (turns : List (ℕ × Arrival)) →
         IsJointRun net processes steps turns →
-        HoldsJoint (joint_net net processes steps turns) processes (begin net) (lefts_at_start net processes steps)
-        turns (joint_reports net processes steps turns) }
+        HoldsJoint net processes (begin net) (lefts_at_start net processes steps) turns
+        (joint_reports net processes steps turns) }
     ensures calls { (net : Net) (processes : List (List ℕ)) (steps : List Line) (turns : List (ℕ × Arrival)) →
         IsJointRun net processes steps turns →
         AllDoStepsJoint (joint_net net processes steps turns) processes (start net) []

@@ -5,7 +5,8 @@ use Rattle.std.specs.List.{list_any}
 use Rattle.std.proofs.lemmas.Bool.{and_parts, and_from, ltb-true, ltb-false, le-ltb}
 use Rattle.std.proofs.lemmas.List.Folds.{list_any-append}
 use Rattle.gr_event.specs.declared.event.Event.{Event}
-use Rattle.gr_event.specs.Joins.{Join, Joins, joined_below, longer, NoneBelow}
+use Rattle.gr_event.specs.Joins.{Joins, joined_below, longer, NoneBelow}
+use Rattle.gr_event.specs.declared.join.Join.{Join}
 use Rattle.gr_know.specs.declared.values.K.TheVariants.{D}
 use Rattle.gr_know.specs.Values.{Known, known_at}
 use Rattle.gr_model.specs.Net.{Net, wants_with, is_late, all_late}

@@ -2,7 +2,8 @@
 use Rattle.std.proofs.Common.{◌≡◌, ◌⊎◌, inl, inr, Option, Some, None, subst, ℕ, suc, Bool, true, false, ◌&&◌, ◌||◌, List, [], ◌∷◌, ◌++◌, refl, sym, ap, ap₂, ◌∙◌}
 use Rattle.std.specs.Prelude.{is_some}
 use Rattle.std.proofs.lemmas.Bool.{eq-eqb}
-use Rattle.gr_event.specs.Joins.{Join, Joins, splits, first_split, same_join}
+use Rattle.gr_event.specs.Joins.{Joins, splits, first_split, same_join}
+use Rattle.gr_event.specs.declared.join.Join.{Join}
 use Rattle.gr_model_calls.proofs.calls.Held.{IsFront, never_split}
 use Rattle.std.specs.Prelude.{if◌then◌else◌}
 use Rattle.gr_event.specs.Joins.{Joins}

@@ -41,7 +41,7 @@ use Rattle.gr_model_theorems.proofs.headline.SettlesAlways.{sweep_settles as set
 use Rattle.gr_model_theorems.proofs.sweep.RunsByRules.{schedule_by_rules as rules_on_one, schedule_once as once_on_one}
 use Rattle.gr_model_theorems.proofs.order.Always.{ordered_always as ordered_on_one}
 use Rattle.gr_model_theorems.proofs.joins.Owing.{RecordedAhead, RecordsUpto, ahead_at, records_upto, after_same, expected_on, holds_on}
-use Rattle.gr_model_theorems.proofs.joins.AsOne.{AsOne, as_one, steps_in, step_in, subscriber_in, start_same, history_same}
+use Rattle.gr_model_theorems.proofs.joins.AsOne.{AsOne, as_one, subscriber_in, start_same, history_same}
 
 -- The record's joins are the logs'
 
@@ -121,7 +121,7 @@ nothing_upto zero p = tt
 nothing_upto (suc n) zero = tt
 nothing_upto (suc n) (suc p) = nothing_upto n p
 
-begin_upto : (net : Net) → RecordsUpto (begin net).records
+pub begin_upto : (net : Net) → RecordsUpto (begin net).records
 unfolding begin
 begin_upto net = nothing_upto net.publishers
 
@@ -142,7 +142,7 @@ headline_always net steps n z r i =
     last p = (log_of (world_after net steps) p).joins
 
 -- each event of each record is settled after a step too
-upto_after : (net : Net) (h : History) (l : Line) (ls : List Report) → RecordsUpto h.records → RecordsUpto (history_after net h l ls).records
+pub upto_after : (net : Net) (h : History) (l : Line) (ls : List Report) → RecordsUpto h.records → RecordsUpto (history_after net h l ls).records
 unfolding history_after
 upto_after net h l ls u = records_upto net h l ls u
 
@@ -214,7 +214,7 @@ pub schedule_once : (net : Net) (steps : List Line) (rs : List (List Report)) (w
 schedule_once net steps rs w n z i a =
     let wants : ℕ → ℕ → ℕ → Event → Bool = λ p s t e. wants_with net (last p) p s t e in
     let g = last_net net w in
-    let into : StepsIn g steps = steps_in net wants steps i in
+    let into : StepsIn g steps = i in
     let y = once_on_one g steps rs w (IsNet-with net wants n) z into a in
     let ends : (p : ℕ) → p < net.publishers → (log_of (one.run_all g (start g) steps).world p).joins ≡ last p = λ p j. ap (λ (u : World). (log_of u p).joins) (sym y.1) in
     let s : start g ≡ start net = start_same net wants in (
@@ -234,7 +234,7 @@ fits_before net steps last n i a =
     let wants : ℕ → ℕ → ℕ → Event → Bool = λ p s t e. wants_with net (last p) p s t e in
     let g = with_wants net wants in
     let m = IsNet-with net wants n in
-    let into : StepsIn g steps = steps_in net wants steps i in
+    let into : StepsIn g steps = i in
     let s : start g ≡ start net = start_same net wants in
     subst (λ (t : Transition). WorldFits g t.world) (sym (run_ahead net last steps n into (start net) (subst (λ (u : World). WorldFits g u) s (start_fits g m)) a))
     (subst (λ (u : World). WorldFits g (one.run_all g u steps).world) s (always_true g steps m into))
@@ -261,7 +261,7 @@ doubts_stand net steps l n i j =
     let wants : ℕ → ℕ → ℕ → Event → Bool = λ p s t e. wants_with net (last p) p s t e in
     let g = with_wants net wants in
     let f : WorldFits g w = fits_before net steps last n i (ahead_before net last l w (step_ends net w l)) in
-    let k : StepIn g l.step = step_in net wants l.step j in
+    let k : StepIn g l.step = j in
     ap (λ (t : Transition). map doubt_place (filter is_doubt_line t.lines)) (next_ahead net last l n k w f (step_ends net w l)) ∙ (doubts_on_one g w l (IsNet-with net wants n) f k ∙ shown_same net wants l)
   where
     shown_same : (m : Net) (f : ℕ → ℕ → ℕ → Event → Bool) (k : Line) → doubts_shown (with_wants m f) k ≡ doubts_shown m k

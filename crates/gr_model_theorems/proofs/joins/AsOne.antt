@@ -2,10 +2,6 @@
 use Rattle.std.proofs.Common.{◌≡◌, ◌⊎◌, inl, inr, ℕ, ◌<◌, ◌≤◌, Bool, true, List, [], ◌∷◌, refl, sym, ap, ◌∙◌, subst}
 use Rattle.gr_event.specs.declared.event.Event.{Event}
 use Rattle.gr_event.specs.Joins.{Joins}
-use Rattle.gr_frame.specs.declared.Body.{Body}
-use Rattle.gr_frame.specs.declared.Body.TheVariants as body
-use Rattle.gr_sched.specs.declared.step.Step.{Step}
-use Rattle.gr_sched.specs.declared.step.Step.TheVariants as step
 use Rattle.gr_sched.specs.declared.step.Line.{Line}
 use Rattle.gr_model.specs.declared.report.Report.{Report}
 use Rattle.gr_model.specs.Net.{Net, with_wants, wants_with}
@@ -15,31 +11,14 @@ use Rattle.gr_model.specs.World.{World, Transition, log_of, start, run_all, run_
 use Rattle.gr_model.specs.Headline.{History, history, history_after, record_of, begin}
 use Rattle.gr_model_calls.specs.OneNet as one
 use Rattle.gr_model_calls.specs.OneNet.{last_net}
-use Rattle.gr_model_calls.specs.Fits.{WorldFits, StepIn, StepsIn, history_of}
-use Rattle.gr_model_calls.specs.Edges.{GoesBetween}
+use Rattle.gr_model_calls.specs.Fits.{WorldFits, StepsIn, history_of}
 use Rattle.gr_model_calls.proofs.runs.Schedules.{start_fits}
 use Rattle.gr_model_calls.proofs.joins.OneRun.{IsNet-with, run_is, lines_are, report_is, report_only}
 use Rattle.gr_model_theorems.specs.Spelled.{LateIn}
 use Rattle.gr_model_theorems.specs.Statements.{world_after, joined_net}
 use Rattle.gr_model_theorems.proofs.joins.Owing.{after_same}
 
--- who wants what is no matter of the numbers of a step
-pub step_in : (net : Net) (f : ℕ → ℕ → ℕ → Event → Bool) (s : Step) → StepIn net s → StepIn (with_wants net f) s
-step_in net f (step.Publish p number stop e) i = i
-step_in net f (step.Wake b) i = i
-step_in net f (step.Crash b) i = i
-step_in net f (step.Join s p) i = i
-step_in net f (step.Clock now) i = tt
-step_in net f (step.Deliver k) i = tt
-step_in net f step.Sweep i = tt
-step_in net f step.Show i = tt
-step_in net f (step.Bytes k) i = tt
-
-pub steps_in : (net : Net) (f : ℕ → ℕ → ℕ → Event → Bool) (ls : List Line) → StepsIn net ls → StepsIn (with_wants net f) ls
-steps_in net f [] i = tt
-steps_in net f (l ∷ ls) i = (step_in net f l.step i.0, steps_in net f ls i.1)
-
--- nor of a subscriber that is there
+-- who wants what is no matter of a subscriber that is there
 pub subscriber_in : (net : Net) (f : ℕ → ℕ → ℕ → Event → Bool) (s : ℕ) → IsSubscriber net s → IsSubscriber (with_wants net f) s
 subscriber_in net f s y = record { at_in = y.at_in; here = y.here }
 
@@ -65,10 +44,9 @@ pub record OnAsOne (net : Net) (w : World) (ls : List Line) : Type 0 where
 pub on_as_one : (net : Net) (w : World) (ls : List Line) → IsNet net → WorldFits (last_net net (run_all net w ls).world) w → StepsIn net ls → OnAsOne net w ls
 on_as_one net w ls n f i =
     let last : ℕ → Joins = λ p. (log_of (run_all net w ls).world p).joins in
-    let into : StepsIn (with_wants net (λ p s t e. wants_with net (last p) p s t e)) ls = steps_in net (λ p s t e. wants_with net (last p) p s t e) ls i in
     record {
-      run = run_is net last ls n into w f (inl (λ p j. refl));
-      lines = lines_are net last ls n into w f (inl (λ p j. refl));
+      run = run_is net last ls n i w f (inl (λ p j. refl));
+      lines = lines_are net last ls n i w f (inl (λ p j. refl));
     }
 
 -- from the start
@@ -83,23 +61,17 @@ pub as_one : (net : Net) (steps : List Line) → IsNet net → StepsIn net steps
 as_one net steps n i =
     let last : ℕ → Joins = λ p. (log_of (world_after net steps) p).joins in
     let wants : ℕ → ℕ → ℕ → Event → Bool = λ p s t e. wants_with net (last p) p s t e in
-    let into : StepsIn (joined_net net steps) steps = steps_in net wants steps i in
     let x = on_as_one net (start net) steps n (subst (λ (w : World). WorldFits (joined_net net steps) w) (start_same net wants) (start_fits (joined_net net steps) (IsNet-with net wants n))) i in
     record {
       tree = IsNet-with net wants n;
-      steps_in = into;
+      steps_in = i;
       run = x.run ∙ ap (λ (w : World). one.run_all (joined_net net steps) w steps) (sym (start_same net wants));
-      report = report_is net steps n into;
+      report = report_is net steps n i;
       history =
           ap (λ (rs : List (List Report)). history net (begin net) steps rs) (x.lines ∙ ap (λ (w : World). one.run_from (joined_net net steps) w steps) (sym (start_same net wants)))
           ∙ ap (λ (h : History). history net h steps (one.run_from (joined_net net steps) (start (joined_net net steps)) steps)) (sym (begin_same net wants))
           ∙ sym (history_same net last (begin (joined_net net steps)) steps (one.run_from (joined_net net steps) (start (joined_net net steps)) steps));
     }
-
-pub between_in : (net : Net) (f : ℕ → ℕ → ℕ → Event → Bool) (p from to : ℕ) (b : Body) → GoesBetween (with_wants net f) p from to b → GoesBetween net p from to b
-between_in net f p from to (body.Knowledge runs js) g = g
-between_in net f p from to (body.Curiosity runs) g = g
-between_in net f p from to (body.Expect tick) g = g
 
 pub late_in : (net : Net) (f : ℕ → ℕ → ℕ → Event → Bool) → LateIn net → LateIn (with_wants net f)
 late_in net f l = record { few = l.few; numbers = l.numbers }

@@ -32,7 +32,7 @@ use Rattle.gr_model_theorems.proofs.server.OpenedLines.{opened_tells, opened_sen
 use Rattle.gr_model_theorems.proofs.server.OpenedFits.{stands_over_logs}
 use Rattle.gr_model_theorems.proofs.server.OpensByRules.{over_by_rules as rules_on_one, over_once as once_on_one}
 use Rattle.gr_model_theorems.proofs.joins.Owing.{RecordsUpto, holds_on}
-use Rattle.gr_model_theorems.proofs.joins.AsOne.{OnAsOne, on_as_one, steps_in, history_same}
+use Rattle.gr_model_theorems.proofs.joins.AsOne.{OnAsOne, on_as_one, history_same}
 
 -- who wants what is no matter of logs that were found
 pub reopened_in : (net : Net) (f : ℕ → ℕ → ℕ → Event → Bool) (logs : List Log) → AreReopened net logs → AreReopened (with_wants net f) logs
@@ -81,7 +81,7 @@ over_as_one net logs steps n a i =
     let e = (opening_runs net last n logs a).on (inl (run_back net (seen net) (AheadOf net last) (growing net (seen net) last) steps (started_over net logs).world ends)) in
     let f : WorldFits g (started_over net logs).world = subst (λ (t : Transition). WorldFits g t.world) (sym e) (opened g logs m b).fits in
     let x = on_as_one net (started_over net logs).world steps n f i in
-    record { tree = m; steps_in = steps_in net g.wants steps i; reopened = b; opens = e; run = x.run; lines = x.lines }
+    record { tree = m; steps_in = i; reopened = b; opens = e; run = x.run; lines = x.lines }
   where
     last : ℕ → Joins
     last p = (log_of (ended_over net logs steps) p).joins
@@ -91,11 +91,11 @@ over_as_one net logs steps n a i =
 
 -- The headline
 
-begin_same : (net : Net) (f : ℕ → ℕ → ℕ → Event → Bool) (logs : List Log) (told : List Report) → begin_over (with_wants net f) logs told ≡ begin_over net logs told
+pub begin_same : (net : Net) (f : ℕ → ℕ → ℕ → Event → Bool) (logs : List Log) (told : List Report) → begin_over (with_wants net f) logs told ≡ begin_over net logs told
 unfolding begin_over
 begin_same net f logs told = refl
 
-found_upto : (net : Net) (logs : List Log) (told : List Report) → AreReopened net logs → RecordsUpto (begin_over net logs told).records
+pub found_upto : (net : Net) (logs : List Log) (told : List Report) → AreReopened net logs → RecordsUpto (begin_over net logs told).records
 unfolding begin_over
 found_upto net logs told a = go (numbers net.publishers)
   where
@@ -170,7 +170,7 @@ over_once net logs steps n z a i told rs w by =
     let wants : ℕ → ℕ → ℕ → Event → Bool = λ p s t e. wants_with net (last p) p s t e in
     let g = last_net net w in
     let tree : IsNet g = IsNet-with net wants n in
-    let into : StepsIn g steps = steps_in net wants steps i in
+    let into : StepsIn g steps = i in
     let found : AreReopened g logs = reopened_in net wants logs a in
     let o = one.opening g (numbers net.brokers) logs in
     let y = once_on_one g logs steps told rs w tree z found into by in

@@ -222,17 +222,28 @@ module _ (net : Net) (last : ℕ → Joins) where
   abbrev LastOf : History → List Line → List (List Report) → Type 0
   LastOf h ls rs = (p : ℕ) → (record_of (history net h ls rs) p).joined ≡ last p
 
-  -- what is ahead at the end is ahead before
-  pub ahead_at : (h : History) (ls : List Line) (rs : List (List Report)) → LastOf h ls rs → RecordedAhead last h
-  ahead_at h [] rs e p = subst (λ z. Grows (record_of h p).joined z (record_of h p).settled) (e p) (grows_not (record_of h p).joined (record_of h p).settled)
-  ahead_at h (l ∷ ls) [] e p = subst (λ z. Grows (record_of h p).joined z (record_of h p).settled) (e p) (grows_not (record_of h p).joined (record_of h p).settled)
-  ahead_at h (l ∷ ls) (r ∷ rs) e p = ahead_back net last h l r (ahead_at (history_after net h l r) ls rs e) p
+  -- where the joins are the last ones nothing is ahead
+  last_ahead : (h : History) (ls : List Line) (rs : List (List Report)) → LastOf h ls rs → RecordedAhead last (history net h ls rs)
+  last_ahead h ls rs e p = let r = record_of (history net h ls rs) p in subst (λ z. Grows r.joined z r.settled) (e p) (grows_not r.joined r.settled)
+
+  -- what is ahead of a history is ahead of those before it
+  pub ahead_from : (h : History) (ls : List Line) (rs : List (List Report)) → RecordedAhead last (history net h ls rs) → RecordedAhead last h
+  ahead_from h [] rs a = a
+  ahead_from h (l ∷ ls) [] a = a
+  ahead_from h (l ∷ ls) (r ∷ rs) a = ahead_back net last h l r (ahead_from (history_after net h l r) ls rs a)
+
+  pub holds_before : (h : History) (ls : List Line) (rs : List (List Report)) → RecordedAhead last (history net h ls rs) → RecordsUpto h.records → Holds_from_by (λ _. one) one h ls rs → Holds_from_by (recorded_net net) net h ls rs
+  unfolding history_after
+  holds_before h [] [] e u x = (delivered_on h e u x.0, order_on h e u x.1)
+  holds_before h (l ∷ ls) (r ∷ rs) e u x =
+      let a = ahead_from h (l ∷ ls) (r ∷ rs) e in
+      (delivered_on h a u x.0, order_on h a u x.1, step_on h l r x.2, holds_before (history_after net h l r) ls rs e (records_upto net h l r u) (subst (λ z. Holds_from_by (λ _. one) one z ls rs) (after_same h l r) x.3))
+  holds_before h [] (r ∷ rs) e u x = absurd x
+  holds_before h (l ∷ ls) [] e u x = absurd x
 
   pub holds_on : (h : History) (ls : List Line) (rs : List (List Report)) → LastOf h ls rs → RecordsUpto h.records → Holds_from_by (λ _. one) one h ls rs → Holds_from_by (recorded_net net) net h ls rs
-  unfolding history_after
-  holds_on h [] [] e u x = (delivered_on h (ahead_at h [] [] e) u x.0, order_on h (ahead_at h [] [] e) u x.1)
-  holds_on h (l ∷ ls) (r ∷ rs) e u x =
-      let a = ahead_at h (l ∷ ls) (r ∷ rs) e in
-      (delivered_on h a u x.0, order_on h a u x.1, step_on h l r x.2, holds_on (history_after net h l r) ls rs e (records_upto net h l r u) (subst (λ z. Holds_from_by (λ _. one) one z ls rs) (after_same h l r) x.3))
-  holds_on h [] (r ∷ rs) e u x = absurd x
-  holds_on h (l ∷ ls) [] e u x = absurd x
+  holds_on h ls rs e u x = holds_before h ls rs (last_ahead h ls rs e) u x
+
+  -- what is ahead at the end is ahead before
+  pub ahead_at : (h : History) (ls : List Line) (rs : List (List Report)) → LastOf h ls rs → RecordedAhead last h
+  ahead_at h ls rs e = ahead_from h ls rs (last_ahead h ls rs e)

@@ -15,7 +15,7 @@ use Rattle.gr_model.specs.Tree.{IsNet, IsDistinct}
 use Rattle.gr_model.specs.Broker.{Log, seen}
 use Rattle.gr_model.specs.World.{World, Transition, log_of, run_from}
 use Rattle.gr_model.specs.Opening.{begin_over}
-use Rattle.gr_model.specs.Headline.{History, Holds_from}
+use Rattle.gr_model.specs.Headline.{History, Holds_from, recorded_net}
 use Rattle.gr_model.specs.Ordered.{OneOrder}
 use Rattle.gr_model.specs.Arrivals.{Arrival, requests_of, served, served_by, served_from_by, arrived_by, Request}
 use Rattle.gr_model_calls.specs.OneNet as one
@@ -25,20 +25,21 @@ use Rattle.gr_model_calls.proofs.joins.Growing.{AheadOf}
 use Rattle.gr_model_calls.proofs.joins.OneRun.{IsNet-with}
 use Rattle.gr_model_theorems.specs.Found.{AreReopened}
 use Rattle.gr_model_theorems.specs.Spelled.{NumbersIn, WorldIn}
-use Rattle.gr_model_theorems.specs.Served.{IsOfBytes, IsHonest, IsHonestRun, HeadlineServed, AllDoSteps}
+use Rattle.gr_model_theorems.specs.Served.{IsOfBytes, IsHonest, IsHonestRun, HeadlineServed_by, HoldsServed_by, AllDoSteps}
 use Rattle.gr_model_theorems.specs.Statements.{started_over, opened_over, lines_over, over_net, served_end, served_net, MeetsHeadlineServed, ArrivalsDoSteps}
 use Rattle.gr_model_theorems.specs.Lanes.{AllFollow, whole_logs, found_logs, lanes_net, HoldsOverLanes, HoldsServedLanes}
 use Rattle.gr_model_theorems.specs.OrderedServed.{told_in_order, opened_report, TotallyOrderedOver, OrderedOverLanes, OneOrderOverLanes, TotallyOrderedServed, OrderedServedLanes, OneOrderServedLanes}
 use Rattle.gr_model_theorems.proofs.limits.Spelled.{IsSmall, next_in}
 use Rattle.gr_model_theorems.proofs.server.Serving.{requests_are_in}
-use Rattle.gr_model_theorems.proofs.server.ServedOver.{opened_ready, begun_lines, headline_served as headline_on_one, served_does as does_on_one}
+use Rattle.gr_model_theorems.proofs.server.ServedOver.{opened_ready, begun_lines, served_does as does_on_one}
 use Rattle.gr_model_theorems.proofs.server.Lanes.{are_found, served_lanes, cut_events_silent}
 use Rattle.gr_model_theorems.proofs.order.OverLogs.{ordered_over, at_end as over_end}
 use Rattle.gr_model_theorems.proofs.order.Served.{ordered_served, at_end as served_at_end}
 use Rattle.gr_model_theorems.proofs.order.OneOrder.{in_one_order}
-use Rattle.gr_model_theorems.proofs.joins.AsOne.{steps_in, late_in}
-use Rattle.gr_model_theorems.proofs.joins.Over.{reopened_in, opening_runs, over_as_one, headline_over}
-use Rattle.gr_model_theorems.proofs.joins.Serving.{arrived_back, requests_same, served_are}
+use Rattle.gr_model_theorems.proofs.joins.AsOne.{late_in}
+use Rattle.gr_model_theorems.proofs.joins.Over.{reopened_in, opening_runs, over_as_one, headline_over, found_upto, begin_same, opening_tells}
+use Rattle.gr_model_theorems.proofs.joins.Telling.{served_holds}
+use Rattle.gr_model_theorems.proofs.joins.Serving.{arrived_back, served_are}
 
 pub small_in : (net : Net) (f : ℕ → ℕ → ℕ → Event → Bool) → IsSmall net → IsSmall (with_wants net f)
 small_in net f z = record { brokers = z.brokers; publishers = z.publishers; late = late_in net f z.late }
@@ -50,7 +51,7 @@ pub record ServedAsOne (net : Net) (logs : List Log) (steps : List Line) (arriva
   pub steps_in : StepsIn (served_net net logs steps arrivals) steps
   pub reopened : AreReopened (served_net net logs steps arrivals) logs
   pub opens : started_over net logs ≡ opened_over (served_net net logs steps arrivals) logs
-  pub left : requests_of (served_net net logs steps arrivals) (numbers net.brokers) steps ≡ requests_of net (numbers net.brokers) steps
+  pub ends : served_end net logs steps arrivals ≡ one.arrived (served_net net logs steps arrivals) (numbers net.brokers) (opened_over (served_net net logs steps arrivals) logs).world (requests_of net (numbers net.brokers) steps) arrivals
   pub reports : served net (numbers net.brokers) logs steps arrivals ≡ one.served (served_net net logs steps arrivals) (numbers net.brokers) logs steps arrivals
 
 pub served_as_one : (net : Net) (logs : List Log) (steps : List Line) (arrivals : List Arrival) → IsNet net → IsSmall net → 1 ≤ net.quiet → 1 ≤ net.retry → AreReopened net logs → StepsIn net steps → NumbersIn steps → AllByRecursion IsOfBytes arrivals → IsHonestRun arrivals (served net (numbers net.brokers) logs steps arrivals) → ServedAsOne net logs steps arrivals
@@ -71,17 +72,16 @@ served_as_one net logs steps arrivals n small z retry a i m fits honest =
     let begun : IsHonest h.lines arrivals (served_from_by (seen net) net all o.world left arrivals) = subst (λ (ls : List Report). IsHonest ls arrivals (served_from_by (seen net) net all o.world left arrivals)) (sym (begun_lines g logs o.lines)) here in
     let x = served_are net last n z retry (WorldIn net.late) (λ u l f j k y. next_in g u l tree tiny f j k y) (λ u y. y.frames) (λ f y. spelled_decodes (frame_bytes f) f y) arrivals o.world h left (opened_ready g logs tree tiny found) (requests_are_in net all steps i m) fits begun
     (subst (λ (t : Transition). AheadOf net last (arrived_by (seen net) net all t.world left arrivals)) opens ends) in
-    let same : requests_of g all steps ≡ left = requests_same net wants all steps in
     record {
       tree = tree;
       small = tiny;
-      steps_in = steps_in net wants steps i;
+      steps_in = i;
       reopened = found;
       opens = opens;
-      left = same;
+      ends = ap (λ (t : Transition). arrived_by (seen net) net all t.world left arrivals) opens ∙ x.1;
       reports =
           ap (λ (t : Transition). t.lines ∷ served_from_by (seen net) net all t.world left arrivals) opens
-          ∙ ap (λ (rs : List (List Report)). o.lines ∷ rs) (x.0 ∙ ap (λ (ps : List Request). one.served_from g all o.world ps arrivals) (sym same));
+          ∙ ap (λ (rs : List (List Report)). o.lines ∷ rs) x.0;
     }
   where
     last : ℕ → Joins
@@ -91,11 +91,26 @@ served_as_one net logs steps arrivals n small z retry a i m fits honest =
     ends p j = let l = log_of (served_end net logs steps arrivals) p in grows_not l.joins l.settled
 
 pub headline_served : (net : Net) (logs : List Log) (steps : List Line) (arrivals : List Arrival) → IsNet net → IsSmall net → 1 ≤ net.quiet → 1 ≤ net.retry → AreReopened net logs → StepsIn net steps → NumbersIn steps → AllByRecursion IsOfBytes arrivals → IsHonestRun arrivals (served net (numbers net.brokers) logs steps arrivals) → MeetsHeadlineServed net logs steps arrivals
-headline_served net logs steps arrivals n small z retry a i m fits honest =
-    let x = served_as_one net logs steps arrivals n small z retry a i m fits honest in
+unfolding served_by
+headline_served net logs steps arrivals n small z retry a i k fits honest =
+    let x = served_as_one net logs steps arrivals n small z retry a i k fits honest in
     let g = served_net net logs steps arrivals in
-    subst (λ (rs : List (List Report)). HeadlineServed g logs steps arrivals rs) (sym x.reports)
-    (headline_on_one g logs steps arrivals x.tree x.small z retry x.reopened x.steps_in m fits (subst (λ (rs : List (List Report)). IsHonestRun arrivals rs) x.reports honest))
+    let all : List ℕ = numbers net.brokers in
+    let left : List Request = requests_of net all steps in
+    let o : Transition = opened_over g logs in
+    let h : History = begin_over g logs o.lines in
+    let same : served net all logs steps arrivals ≡ o.lines ∷ one.served_from g all o.world left arrivals = x.reports in
+    let here : IsHonest o.lines arrivals (one.served_from g all o.world left arrivals) = subst (λ (rs : List (List Report)). IsHonestRun arrivals rs) same honest in
+    let begun : IsHonest h.lines arrivals (one.served_from g all o.world left arrivals) = subst (λ (ls : List Report). IsHonest ls arrivals (one.served_from g all o.world left arrivals)) (sym (begun_lines g logs o.lines)) here in
+    let y = served_holds net last n z retry (WorldIn net.late) (λ u l f j q v. next_in g u l x.tree x.small f j q v) (λ u v. v.frames) (λ f v. spelled_decodes (frame_bytes f) f v) arrivals o.world h left (opened_ready g logs x.tree x.small x.reopened) (requests_are_in net all steps i k) fits begun (found_upto g logs o.lines x.reopened)
+    (λ p. ap (λ (w : World). (log_of w p).joins) (sym x.ends)) in
+    subst (λ (rs : List (List Report)). HeadlineServed_by (recorded_net net) (over_net net logs []) net logs steps arrivals rs) (sym same) (
+      sym (ap (λ (t : Transition). t.lines) x.opens) ∙ opening_tells net logs n a,
+      subst (λ (q : History). HoldsServed_by (recorded_net net) net q left arrivals (one.served_from g all o.world left arrivals)) (begin_same net g.wants logs o.lines) y.1,
+    )
+  where
+    last : ℕ → Joins
+    last p = (log_of (served_end net logs steps arrivals) p).joins
 
 pub served_does : (net : Net) (logs : List Log) (steps : List Line) (arrivals : List Arrival) → IsNet net → IsSmall net → 1 ≤ net.quiet → 1 ≤ net.retry → AreReopened net logs → StepsIn net steps → NumbersIn steps → AllByRecursion IsOfBytes arrivals → IsHonestRun arrivals (served net (numbers net.brokers) logs steps arrivals) → ArrivalsDoSteps net logs steps arrivals
 served_does net logs steps arrivals n small z retry a i m fits honest =
@@ -104,8 +119,7 @@ served_does net logs steps arrivals n small z retry a i m fits honest =
     record {
       opens = x.opens;
       does = subst (λ (t : Transition). AllDoSteps g t.world t.lines (requests_of net (numbers net.brokers) steps) arrivals) (sym x.opens)
-          (subst (λ (ps : List Request). AllDoSteps g (opened_over g logs).world (opened_over g logs).lines ps arrivals) x.left
-          (does_on_one g logs steps arrivals x.tree x.small z retry x.reopened x.steps_in m fits (subst (λ (rs : List (List Report)). IsHonestRun arrivals rs) x.reports honest)));
+          (does_on_one g logs steps arrivals x.tree x.small z retry x.reopened x.steps_in m fits (subst (λ (rs : List (List Report)). IsHonestRun arrivals rs) x.reports honest));
       reports = x.reports;
     }
 
@@ -120,7 +134,7 @@ holds_over_lanes net lanes steps n z r few a i =
 
 pub holds_served_lanes : (net : Net) (lanes : List (List Record)) (steps : List Line) (arrivals : List Arrival) → IsNet net → IsSmall net → 1 ≤ net.quiet → 1 ≤ net.retry → AllFollow net.late lanes → StepsIn net steps → NumbersIn steps → AllByRecursion IsOfBytes arrivals → IsHonestRun arrivals (served net (numbers net.brokers) (whole_logs lanes) steps arrivals) → HoldsServedLanes net lanes steps arrivals
 holds_served_lanes net lanes steps arrivals n small z r a i m fits =
-    subst (λ (rs : List (List Report)). IsHonestRun arrivals rs → HeadlineServed (lanes_net net lanes steps arrivals) (found_logs lanes) steps arrivals rs) (sym (served_lanes (seen net) net net.late lanes steps arrivals a))
+    subst (λ (rs : List (List Report)). IsHonestRun arrivals rs → HeadlineServed_by (recorded_net net) (over_net net (found_logs lanes) []) net (found_logs lanes) steps arrivals rs) (sym (served_lanes (seen net) net net.late lanes steps arrivals a))
     (λ honest. headline_served net (found_logs lanes) steps arrivals n small z r (are_found net lanes small.late.few a) i m fits honest)
 
 -- One order

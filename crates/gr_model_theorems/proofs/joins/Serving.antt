@@ -4,7 +4,8 @@ use Rattle.std.specs.Prelude.{nat_eq, nat_lt, if◌then◌else◌}
 use Rattle.std.specs.List.{AllByRecursion}
 use Rattle.std.proofs.lemmas.Bool.{and_parts, ltb-true}
 use Rattle.gr_event.specs.declared.event.Event.{Event}
-use Rattle.gr_event.specs.Joins.{Joins, Split, first_split}
+use Rattle.gr_event.specs.Joins.{Joins, first_split}
+use Rattle.gr_event.specs.declared.join.Split.{Split}
 use Rattle.gr_frame.specs.declared.Frame.{Frame}
 use Rattle.gr_frame.specs.declared.fault.FrameFault.{FrameFault}
 use Rattle.gr_frame.specs.Bytes.{frame_bytes}
@@ -15,8 +16,6 @@ use Rattle.gr_note.specs.declared.fault.NoteFault.{NoteFault}
 use Rattle.gr_note.specs.Fault as note
 use Rattle.gr_note.specs.Bytes.{begins_note}
 use Rattle.gr_note.specs.Decode.{note_decoded}
-use Rattle.gr_sched.specs.declared.step.Step.{Step}
-use Rattle.gr_sched.specs.declared.step.Step.TheVariants as step
 use Rattle.gr_sched.specs.declared.step.Line.{Line}
 use Rattle.gr_model.specs.declared.report.Report.{Report}
 use Rattle.gr_model.specs.declared.report.Report.TheVariants as line
@@ -24,7 +23,7 @@ use Rattle.gr_model.specs.Net.{Net, with_wants, wants_with, numbers}
 use Rattle.gr_model.specs.Tree.{IsNet}
 use Rattle.gr_model.specs.Broker.{View, Log, seen}
 use Rattle.gr_model.specs.World.{World, Transition, view_of, log_of, unchanged, followed_by, in_turn, wake_all_by, publish_now_by, deliver_frame_by}
-use Rattle.gr_model.specs.Arrivals.{asks_publish, asks_join, Arrival, datagram, quiet, Publish, at_moment, joins_in, split_line, clash_line, least_clash, fits_broker, fault_number, publisher_of, takes_notes, requests_in, requests_of, left_after, takes_by, receives_by, notes_by, reads_by, answered_first_by, quieted_by, comes_by, show_hosted, served_from_by, arrived_by, Request}
+use Rattle.gr_model.specs.Arrivals.{asks_publish, asks_join, Arrival, datagram, quiet, Publish, at_moment, joins_in, split_line, clash_line, least_clash, fits_broker, fault_number, publisher_of, takes_notes, left_after, takes_by, receives_by, notes_by, reads_by, answered_first_by, quieted_by, comes_by, show_hosted, served_from_by, arrived_by, Request}
 use Rattle.gr_model.specs.Headline.{History, history, is_sent}
 use Rattle.gr_model_calls.specs.OneNet as one
 use Rattle.gr_model_calls.specs.Fits.{WorldFits, FrameTrue, StepIn}
@@ -205,22 +204,6 @@ honest_told m P w h (datagram b bytes moment) spelled decodes r x = λ f d. ⊎_
     same_frame f k e = cc
 
 -- A journal
-
-line_same : (net : Net) (f : ℕ → ℕ → ℕ → Event → Bool) (hosted : List ℕ) (k : ℕ) (s : Step) → requests_in (with_wants net f) hosted (record { number = k; step = s }) ≡ requests_in net hosted (record { number = k; step = s })
-line_same net f hosted k (step.Publish p number stop e) = refl
-line_same net f hosted k (step.Wake b) = refl
-line_same net f hosted k (step.Crash b) = refl
-line_same net f hosted k (step.Join s p) = refl
-line_same net f hosted k (step.Clock now) = refl
-line_same net f hosted k (step.Deliver j) = refl
-line_same net f hosted k step.Sweep = refl
-line_same net f hosted k step.Show = refl
-line_same net f hosted k (step.Bytes j) = refl
-
--- what a schedule asks for is the same
-pub requests_same : (net : Net) (f : ℕ → ℕ → ℕ → Event → Bool) (hosted : List ℕ) (steps : List Line) → requests_of (with_wants net f) hosted steps ≡ requests_of net hosted steps
-requests_same net f hosted [] = refl
-requests_same net f hosted (l ∷ ls) = ap₂ (λ (x y : List Request). x ++ y) (line_same net f hosted l.number l.step) (requests_same net f hosted ls)
 
 shown_same : (net : Net) (f : ℕ → ℕ → ℕ → Event → Bool) (hosted : List ℕ) (w : World) → show_hosted (with_wants net f) hosted w ≡ show_hosted net hosted w
 unfolding show_hosted

@@ -35,7 +35,8 @@ use Rattle.gr_model_calls.specs.Fits.{WorldFits}
 use Rattle.gr_model_calls.proofs.runs.Clash.{no_frame_splits, no_frame_clashes}
 use Rattle.gr_model_theorems.proofs.heard.HeardSteps.{sent_line_number}
 use Rattle.gr_model_theorems.proofs.headline.ReplyLines.{frame_told}
-use Rattle.gr_event.specs.Joins.{Joins, Split, first_split}
+use Rattle.gr_event.specs.Joins.{Joins, first_split}
+use Rattle.gr_event.specs.declared.join.Split.{Split}
 use Rattle.gr_model_theorems.proofs.server.CallLines.{IsForeign, published_none, quieted_none, deliver_none}
 
 -- Lines of frames by their bytes

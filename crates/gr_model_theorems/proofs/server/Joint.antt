@@ -19,7 +19,7 @@ use Rattle.gr_model_calls.specs.Fits.{WorldFits, StepIn, StepsIn}
 use Rattle.gr_model_calls.proofs.topology.Strays.{start_over}
 use Rattle.gr_model_theorems.specs.Spelled.{IsInLimits, NumbersIn, IsSpelled, WorldIn}
 use Rattle.gr_model_theorems.specs.Served.{IsOfBytes, steps_at, DoesStepsAt}
-use Rattle.gr_model_theorems.specs.Joint.{brokers_of, left_of, lefts_after, lefts_at_start, IsHonestJoint, HoldsJoint, AllDoStepsJoint, joint_comes_by, joint_from_by, joint_end_by}
+use Rattle.gr_model_theorems.specs.Joint.{brokers_of, left_of, lefts_after, lefts_at_start, IsHonestJoint, HoldsJoint_by, AllDoStepsJoint, joint_comes_by, joint_from_by, joint_end_by}
 use Rattle.gr_model_theorems.proofs.limits.Spelled.{IsSmall, next_in, start_in}
 use Rattle.gr_model_theorems.proofs.records.Recorded.{begin_lines}
 use Rattle.gr_model_theorems.proofs.sweep.FirstUnknown.{unknowns_always}
@@ -66,7 +66,7 @@ honest_same xs ys (x ∷ turns) (r ∷ rs) e h = (honest_at xs ys x.1 e h.0, hon
 module _ (net : Net) (n : IsNet net) (on : 1 ≤ net.quiet) (retry : 1 ≤ net.retry) (P : World → Type 0) (keeps : (u : World) (l : Line) → WorldFits net u → StepIn net l.step → IsInLimits l.step → P u → P (next net u l).world) (spelled : (u : World) → P u → AllByRecursion IsSpelled u.frames) (decodes : (f : Frame) → IsSpelled f → frame_decoded (frame_bytes f) ≡ Ok f) (processes : List (List ℕ)) (are : AllByRecursion (AreBrokers net) processes) where
   -- from where all stands on, the headline holds of what an honest joint journal leads to
   pub holds_joint : (turns : List (ℕ × Arrival)) (w : World) (h : History) (lefts : List (List Request)) → Ready net P w h → AllByRecursion (LeftIn net) lefts → AllByRecursion (λ (x : ℕ × Arrival). IsOfBytes x.1) turns
-      → IsHonestJoint h.lines turns (joint_from net processes w lefts turns) → HoldsJoint net processes h lefts turns (joint_from net processes w lefts turns)
+      → IsHonestJoint h.lines turns (joint_from net processes w lefts turns) → HoldsJoint_by (λ _. net) net processes h lefts turns (joint_from net processes w lefts turns)
   unfolding joint_from_by run_from_by
   holds_joint [] w h lefts r l f x = holds_where_sweeps_reach net w h [] n (sweeps_reach net n on retry) on tt r.whole r.unknown
   holds_joint (x ∷ turns) w h lefts r l f honest =
@@ -78,8 +78,8 @@ module _ (net : Net) (n : IsNet net) (on : 1 ≤ net.quiet) (retry : 1 ≤ net.r
       let here = part_of (AreBrokers net) processes x.0 tt are in
       let low = part_of (LeftIn net) lefts x.0 tt l in
       let y = turn net n on retry P keeps spelled decodes hosted w h left x.1 here r low f.0 honest.0 in
-      arrival_holds net n on retry P keeps spelled decodes hosted (λ k. HoldsJoint net processes k (lefts_after lefts x) turns (joint_from net processes t.world (lefts_after lefts x) turns)) w h left x.1 r y
-      (subst (λ (u : World). HoldsJoint net processes g (lefts_after lefts x) turns (joint_from net processes u (lefts_after lefts x) turns)) (sym y.does.world)
+      arrival_holds net n on retry P keeps spelled decodes hosted (λ k. HoldsJoint_by (λ _. net) net processes k (lefts_after lefts x) turns (joint_from net processes t.world (lefts_after lefts x) turns)) w h left x.1 r y
+      (subst (λ (u : World). HoldsJoint_by (λ _. net) net processes g (lefts_after lefts x) turns (joint_from net processes u (lefts_after lefts x) turns)) (sym y.does.world)
       (holds_joint turns (run_all net w steps).world g (lefts_after lefts x) y.ready (with_part (LeftIn net) lefts x.0 (left_after left x.1) (left_in net left x.1 low) l) f.1
       (subst (λ (u : World). IsHonestJoint g.lines turns (joint_from net processes u (lefts_after lefts x) turns)) y.does.world (honest_same (h.lines ++ t.lines) g.lines turns (joint_from net processes t.world (lefts_after lefts x) turns) y.same honest.1))))
 
@@ -121,7 +121,7 @@ honest_begun net turns rs h = subst (λ (ls : List Report). IsHonestJoint ls tur
 
 pub headline_joint : (net : Net) (processes : List (List ℕ)) (steps : List Line) (turns : List (ℕ × Arrival)) → IsNet net → IsSmall net → 1 ≤ net.quiet → 1 ≤ net.retry → StepsIn net steps → NumbersIn steps → AllByRecursion (AreBrokers net) processes
     → AllByRecursion (λ (x : ℕ × Arrival). IsOfBytes x.1) turns → IsHonestJoint [] turns (joint_reports net processes steps turns)
-    → HoldsJoint net processes (begin net) (lefts_at_start net processes steps) turns (joint_reports net processes steps turns)
+    → HoldsJoint_by (λ _. net) net processes (begin net) (lefts_at_start net processes steps) turns (joint_reports net processes steps turns)
 headline_joint net processes steps turns n z on retry i m are fits honest =
     holds_joint net n on retry (WorldIn net.late) (λ u l f j k x. next_in net u l n z f j k x) (λ u x. x.frames) (λ f x. spelled_decodes (frame_bytes f) f x) processes are
     turns (start net) (begin net) (lefts_at_start net processes steps) (start_ready net n z) (lefts_in net processes steps i m) fits (honest_begun net turns (joint_reports net processes steps turns) honest)

@@ -39,7 +39,6 @@ use Rattle.gr_model_calls.specs.Said.{said_at, TicksRise}
 use Rattle.gr_model_calls.specs.Fits.{StepsIn}
 use Rattle.gr_model_theorems.specs.Spelled.{NumbersIn}
 use Rattle.gr_model_theorems.specs.Found.{IsReopened, AreReopened}
-use Rattle.gr_model_theorems.specs.Served.{IsOfBytes, IsHonestRun, HeadlineServed}
 use Rattle.gr_model_theorems.specs.Statements.{opened_over}
 use Rattle.gr_model_theorems.specs.Lanes.{AllFollow, whole_logs, found_logs, past_cut, DifferInCut, CutEventsSilent_by}
 use Rattle.gr_model_theorems.proofs.limits.Spelled.{IsSmall}
@@ -48,7 +47,9 @@ use Rattle.gr_model_calls.proofs.runs.Closed.{with_logs}
 use Rattle.gr_model_theorems.proofs.server.CutEvents.{with_events, past, SameLog, SameLogs, same_get, same_started, same_learn, SameTold, Follows, same_absorbed, same_unchanged, same_after, same_in_turn, same_wake_all, same_deliver, same_publish_now, same_next, same_run, same_join_now}
 use Rattle.gr_model_theorems.proofs.server.OverLogs.{headline_over_logs}
 use Rattle.gr_event.specs.declared.limits.TheConstants.{MAX_JOINS}
-use Rattle.gr_event.specs.Joins.{Split, first_split, Join, Joins, has_joined, AreJoins}
+use Rattle.gr_event.specs.Joins.{first_split, Joins, has_joined, AreJoins}
+use Rattle.gr_event.specs.declared.join.Join.{Join}
+use Rattle.gr_event.specs.declared.join.Split.{Split}
 use Rattle.gr_publog.proofs.Joins.{room_first, room_after, may_stand}
 use Rattle.gr_event.proofs.Joining.{joins_with}
 use Rattle.gr_frame.proofs.Lists.{none_are}

@@ -13,7 +13,7 @@ use Rattle.gr_model.specs.Opening.{reopened_log, over_logs, publishers_at, begin
 use Rattle.gr_model_calls.specs.OneNet.{opened_for, opening, served}
 use Rattle.gr_model_theorems.specs.Found.{AreReopened}
 use Rattle.gr_model.specs.Arrivals.{Arrival, requests_of, served_by}
-use Rattle.gr_model_theorems.specs.Served.{IsOfBytes, IsHonestRun, AllDoSteps, HeadlineServed}
+use Rattle.gr_model_theorems.specs.Served.{IsOfBytes, IsHonestRun, AllDoSteps, HeadlineServed_by}
 use Rattle.gr_model_calls.specs.Edges.{GoesOverEdge}
 use Rattle.gr_model_theorems.specs.Spelled.{NumbersIn, ViewIn, LogIn, WorldIn}
 use Rattle.gr_model.specs.Tree.{IsNet}
@@ -71,7 +71,7 @@ begun_lines net logs told = refl
 -- The run
 
 -- the headline holds of a server over reopened logs whose journal is honest
-pub headline_served : (net : Net) (logs : List Log) (steps : List Line) (arrivals : List Arrival) → IsNet net → IsSmall net → 1 ≤ net.quiet → 1 ≤ net.retry → AreReopened net logs → StepsIn net steps → NumbersIn steps → AllByRecursion IsOfBytes arrivals → IsHonestRun arrivals (served net (numbers net.brokers) logs steps arrivals) → HeadlineServed net logs steps arrivals (served net (numbers net.brokers) logs steps arrivals)
+pub headline_served : (net : Net) (logs : List Log) (steps : List Line) (arrivals : List Arrival) → IsNet net → IsSmall net → 1 ≤ net.quiet → 1 ≤ net.retry → AreReopened net logs → StepsIn net steps → NumbersIn steps → AllByRecursion IsOfBytes arrivals → IsHonestRun arrivals (served net (numbers net.brokers) logs steps arrivals) → HeadlineServed_by (λ _. net) net net logs steps arrivals (served net (numbers net.brokers) logs steps arrivals)
 unfolding served_by begin_over
 headline_served net logs steps arrivals n z on retry a i m fits honest = (
   opened_tells net logs n a,

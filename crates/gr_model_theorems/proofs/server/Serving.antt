@@ -60,7 +60,7 @@ use Rattle.gr_model_theorems.proofs.server.Arriving.{number_sent, number_is, Doe
 host_hosted : (net : Net) (p : ℕ) → IsNet net → p < net.publishers → is_hosted net (numbers net.brokers) p ≡ true
 host_hosted net p n j = has_number 0 net.brokers (net.host p) (omega arith) (omega (arith, n.host_in p j))
 
-shown : (net : Net) (w : World) → IsNet net → show_hosted net (numbers net.brokers) w ≡ show net w
+pub shown : (net : Net) (w : World) → IsNet net → show_hosted net (numbers net.brokers) w ≡ show net w
 unfolding show_hosted show
 shown net w n = ap (λ (z : List Report). line.Frames (length w.frames) ∷ (z ++ flat_map (λ b. flat_map (λ p. if keeps_horizon net p b then line.Doubt b p (view_of w b p).horizon ∷ [] else []) (numbers net.publishers)) (numbers net.brokers))) (logs 0 net.publishers (omega arith))
   where
@@ -72,7 +72,7 @@ shown net w n = ap (λ (z : List Report). line.Frames (length w.frames) ∷ (z +
     logs a (suc k) h = ap₂ (λ (x y : List Report). x ++ y) (ap (λ c. if c then log_line a ∷ [] else []) (host_hosted net a n (omega arith))) (logs (suc a) k (omega arith))
 
 -- what is shown is the record, and then the horizons
-shown_parts : (net : Net) (w : World) → show net w ≡ filter is_record_line (show net w) ++ filter is_doubt_line (show net w)
+pub shown_parts : (net : Net) (w : World) → show net w ≡ filter is_record_line (show net w) ++ filter is_doubt_line (show net w)
 unfolding show
 shown_parts net w = ap (λ (z : List Report). line.Frames (length w.frames) ∷ z) (ap₂ (λ (x y : List Report). x ++ y) (sym (records (numbers net.publishers))) (sym (ap₂ (λ (x y : List Report). x ++ y) (plain (numbers net.publishers)) (doubts (numbers net.brokers)))) ∙ whole)
   where
@@ -381,7 +381,7 @@ module _ (net : Net) (n : IsNet net) (on : 1 ≤ net.quiet) (retry : 1 ≤ net.r
       let g : History = history net h steps (run_from net w steps) in
       subst (λ z. IsHonest g.lines arrivals (served_from net (numbers net.brokers) z (left_after left a) arrivals)) y.does.world (honest_same (h.lines ++ t.lines) g.lines arrivals (served_from net (numbers net.brokers) t.world (left_after left a) arrivals) y.same x.1)
 
-  arrival_told : (hosted : List ℕ) (w : World) (h : History) (left : List Request) (a : Arrival) → Ready net P w h → Turn hosted w h left a → (let t : Transition = comes net hosted w left a in ArrivalTold net h a t.lines)
+  pub arrival_told : (hosted : List ℕ) (w : World) (h : History) (left : List Request) (a : Arrival) → Ready net P w h → Turn hosted w h left a → (let t : Transition = comes net hosted w left a in ArrivalTold net h a t.lines)
   arrival_told hosted w h left a r y =
       let steps = steps_at net hosted h.lines left a in
       let t = comes net hosted w left a in

@@ -1,12 +1,8 @@
 use Rattle.std.proofs.Common.{sym, subst}
-use Rattle.gr_frame.specs.declared.Body.{Body}
-use Rattle.gr_frame.specs.declared.Body.TheVariants as body
-use Rattle.gr_model.specs.Net.{Net}
 use Rattle.gr_model.specs.World.{Transition}
-use Rattle.gr_model_calls.specs.Edges.{GoesBetween}
 use Rattle.gr_model_calls.proofs.topology.Strays.{no_strays}
 use Rattle.gr_model_theorems.specs.Statements.{joined_net, NothingStrays}
-use Rattle.gr_model_theorems.proofs.joins.AsOne.{as_one, between_in}
+use Rattle.gr_model_theorems.proofs.joins.AsOne.{as_one}
 use Rattle.gr_model_theorems.proofs.theorems.never_strays.Goals as goal
 
 pub returns : goal.returns
@@ -14,4 +10,4 @@ returns c = λ net steps r.
     let x = as_one net steps r.tree r.steps_in in
     let one = joined_net net steps in
     subst (λ (t : Transition). NothingStrays net t.world) (sym x.run)
-    (λ k f e. let y = no_strays one steps k f x.tree x.steps_in e in record { publisher = y.publisher; from = y.from; to = y.to; between = between_in net one.wants f.head.publisher f.head.from f.head.to f.body y.between; joins = y.joins })
+    (λ k f e. let y = no_strays one steps k f x.tree x.steps_in e in record { publisher = y.publisher; from = y.from; to = y.to; between = y.between; joins = y.joins })
