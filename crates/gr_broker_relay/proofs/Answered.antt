@@ -18,19 +18,20 @@ use Rattle.gr_event.specs.Joins.{Joins}
 use Rattle.gr_edge.specs.Pass as edge
 use Rattle.gr_topo.specs.Topology.{TopologyView}
 use Rattle.gr_model.specs.Net.{Net, is_host, keeps_horizon, pass, not_empty}
-use Rattle.gr_model.specs.NetOf.{net_of, wantings_below}
-use Rattle.gr_model.specs.Broker.{View, Log, all_A, max_tick, is_consolidated_by, consolidated, finished, is_F, open_asks, kept_view, kept_view_below, due, noted, acknowledged, answer, answers, curious, stored, curiosity, know_frames, up_frames}
+use Rattle.gr_model.specs.NetOf.{net_of}
+use Rattle.gr_model.specs.Broker.{View, Log, seen, all_A, max_tick, is_consolidated_by, consolidated, finished, is_F, open_asks, kept_view, kept_view_below, due, noted, acknowledged, answer, answers, curious, stored, curiosity, know_frames, up_frames}
 use Rattle.gr_broker_walks.specs.Told.{left_at, said_by, left_by}
 use Rattle.gr_broker_relay.specs.Answers.{reply_to}
+use Rattle.gr_broker_relay.specs.Branch.{wantings_below}
 use Rattle.gr_tick.proofs.RunLaws.{AreRunsOf, zip_runs-is}
 use Rattle.gr_tick.proofs.Canonical.{given_runs, given_zip, value_at-outside}
 use Rattle.gr_know.proofs.ValueLaws.{K_decides}
 use Rattle.gr_curio.proofs.ValueLaws.{moment_decides}
-use Rattle.gr_model.proofs.NetWords.{pass_of}
 use Rattle.gr_model_calls.proofs.calls.Pieces.{consolidated-is}
 use Rattle.gr_model_calls.proofs.calls.CallTruth.{finished-is}
 use Rattle.gr_model_calls.proofs.asks.CallTicks.{due-at, noted-at}
 use Rattle.gr_model_calls.proofs.rules.Answering.{acknowledged-is, answers-is, stored-is, curiosity_wanted}
+use Rattle.gr_broker_relay.proofs.Shown.{pass_shown}
 use Rattle.gr_broker_relay.proofs.LearnedTicks.{told_by_value}
 use Rattle.gr_broker_relay.proofs.Learned.{is_F-only}
 use Rattle.gr_broker_relay.proofs.AnsweredTicks.{silent_passed, answer_passes, silent_answer, stored_value, stored_A, left_A, left_C, asked_on, swapped, reached_A, finished_value, and_known, due_C, open_value, reaches}
@@ -48,28 +49,28 @@ told_where w t false a e = false_from_ne_true (is_told w t) (λ y. (told_by_valu
 -- The reply
 
 -- what is said of a piece before the edge, passed by the edge, is the machine's reply
-pub reply_is : (t : TopologyView) (p c : ℕ) (know said reply : Known) (w piece : Wanted) → AreRuns Q know → AreRuns N w → AreRuns N piece →
+pub reply_is : (t : TopologyView) (v : View) (p c : ℕ) (know said reply : Known) (w piece : Wanted) → AreRuns Q know → AreRuns N w → AreRuns N piece →
     RunsGive Q said (said_by know w piece) →
-    RunsGive Q reply (λ u. edge.pass (wantings_below t p c) [] u (known_at said u)) →
-    reply ≡ answers (net_of t) p c know (acknowledged w piece) piece
-reply_is t p c know said reply w piece k a x s r = given_runs Q reply (answers (net_of t) p c know (acknowledged w piece) piece) (λ u. edge.pass ws [] u (known_at said u)) r i.runs same
+    RunsGive Q reply (λ u. edge.pass (wantings_below t p c) v.joins u (known_at said u)) →
+    reply ≡ answers (seen (net_of t) v) p c know (acknowledged w piece) piece
+reply_is t v p c know said reply w piece k a x s r = given_runs Q reply (answers (seen (net_of t) v) p c know (acknowledged w piece) piece) (λ u. edge.pass ws v.joins u (known_at said u)) r i.runs same
   where
     ws : List edge.Wanting
     ws = wantings_below t p c
 
-    i : AreRunsOf Q (λ u. answer (pass (net_of t) p c u (known_at know u)) (wanted_at (acknowledged w piece) u) (wanted_at piece u)) (answers (net_of t) p c know (acknowledged w piece) piece)
-    i = answers-is (net_of t) p c know (acknowledged w piece) piece k x
+    i : AreRunsOf Q (λ u. answer (pass (seen (net_of t) v) p c u (known_at know u)) (wanted_at (acknowledged w piece) u) (wanted_at piece u)) (answers (seen (net_of t) v) p c know (acknowledged w piece) piece)
+    i = answers-is (seen (net_of t) v) p c know (acknowledged w piece) piece k x
 
-    same : (u : ℕ) → known_at (answers (net_of t) p c know (acknowledged w piece) piece) u ≡ edge.pass ws [] u (known_at said u)
+    same : (u : ℕ) → known_at (answers (seen (net_of t) v) p c know (acknowledged w piece) piece) u ≡ edge.pass ws v.joins u (known_at said u)
     same u =
         i.same_at u
-        ∙ ap₂ (λ y z. answer y z (wanted_at piece u)) (pass_of t p c u [] (known_at know u)) ((acknowledged-is w piece a x).same_at u)
-        ∙ sym (answer_passes ws [] u (known_at know u) (wanted_at w u) (wanted_at piece u))
-        ∙ ap (edge.pass ws [] u) (sym (s.values u))
+        ∙ ap₂ (λ y z. answer y z (wanted_at piece u)) (pass_shown t v p c u (known_at know u)) ((acknowledged-is w piece a x).same_at u)
+        ∙ sym (answer_passes ws v.joins u (known_at know u) (wanted_at w u) (wanted_at piece u))
+        ∙ ap (edge.pass ws v.joins u) (sym (s.values u))
 
--- what passes an edge is said of what is wanted behind it, where there are no joins
-pub passed_by : (said passed : Known) (vs ws : List edge.Wanting) (js : Joins) → vs ≡ ws → js ≡ [] → RunsGive Q passed (λ u. edge.pass vs js u (known_at said u)) → RunsGive Q passed (λ u. edge.pass ws [] u (known_at said u))
-passed_by said passed vs ws js e f g = record { canonical = g.canonical; in_range = g.in_range; values = λ u. g.values u ∙ ap₂ (λ x y. edge.pass x y u (known_at said u)) e f }
+-- what passes an edge is said of what is wanted behind it
+pub passed_by : (said passed : Known) (vs ws : List edge.Wanting) (js : Joins) → vs ≡ ws → RunsGive Q passed (λ u. edge.pass vs js u (known_at said u)) → RunsGive Q passed (λ u. edge.pass ws js u (known_at said u))
+passed_by said passed vs ws js e g = record { canonical = g.canonical; in_range = g.in_range; values = λ u. g.values u ∙ ap (λ x. edge.pass x js u (known_at said u)) e }
 
 -- the reply says nothing exactly where nothing is known of an asked tick, and where none was asked
 pub reply_silent : (net : Net) (p c : ℕ) (know : Known) (w piece : Wanted) → AreRuns Q know → AreRuns N w → AreRuns N piece → (u : ℕ) →
@@ -315,10 +316,10 @@ pub frames_are : (net : Net) (p b now i : ℕ) (piece : Wanted) (v : View) (log 
     RunsGive N left (left_by piece reply) →
     (is_host net p b ≡ true → asked ≡ []) →
     (is_host net p b ≡ false → RunsGive N asked (λ u. due_of (asked_at v.asks u) (wanted_at left u) now net.retry)) →
-    know_frames [] b (get_or (net.children p b) i 0) p reply ++ up_frames net p b asked ≡ (curiosity net p b now (get_or (net.children p b) i 0) i piece v log).frames
+    know_frames v.joins b (get_or (net.children p b) i 0) p reply ++ up_frames net p b asked ≡ (curiosity net p b now (get_or (net.children p b) i 0) i piece v log).frames
 unfolding curiosity
 frames_are net p b now i piece v log reply left asked here k a x e l host below =
-    ap₂ (λ r s. know_frames [] b (get_or (net.children p b) i 0) p r ++ up_frames net p b s) e
+    ap₂ (λ r s. know_frames v.joins b (get_or (net.children p b) i 0) p r ++ up_frames net p b s) e
     (asked_are net p b now i piece v left asked here k a x (subst (λ r. RunsGive N left (left_by piece r)) e l) host below)
 
 -- no line is told

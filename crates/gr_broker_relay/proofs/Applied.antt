@@ -10,15 +10,16 @@ use Rattle.gr_curio.specs.declared.values.Q3.TheVariants.{N, A}
 use Rattle.gr_curio.specs.declared.asks.Moment.TheVariants.{Never}
 use Rattle.gr_curio.specs.Values.{Wanted, Asked, wanted_at, asked_at, is_A}
 use Rattle.gr_curio.specs.Wants.{all_A}
-use Rattle.gr_model.specs.Net.{Net, keeps_horizon, is_host, is_empty, not_empty}
+use Rattle.gr_model.specs.Net.{Net, keeps_horizon, is_host, is_empty, not_empty, wants_with}
 use Rattle.gr_model.specs.NetOf.{net_of}
-use Rattle.gr_model.specs.Broker.{View, Log, is_F, is_consolidated_by, consolidated, finished, forgotten, max_tick, horizon_after, new_ticks, forward_wants, learn}
+use Rattle.gr_model.specs.Broker.{View, Log, seen, is_F, is_consolidated_by, consolidated, finished, forgotten, max_tick, horizon_after, new_ticks, forward_wants, learn}
 use Rattle.gr_broker_relay.specs.declared.learning.Changes.{Changes}
 use Rattle.gr_broker_relay.specs.declared.site.Site.{Site}
 use Rattle.gr_broker_relay.specs.Branch.{Branch}
 use Rattle.gr_broker_relay.specs.Held.{IsSite}
 use Rattle.gr_broker_relay.specs.Kept.{IsKept}
 use Rattle.gr_broker_relay.specs.Changes.{AreChanges, AreTaken, learned, reached}
+use Rattle.gr_broker_relay.proofs.Shown.{kept_shown}
 use Rattle.gr_broker_relay.proofs.Learned.{Completes, joined_is, joined_gives, finished_on, final_on, final_in, asks_kept, dropped_on, is_F-only, learned_host, learned_below}
 use Rattle.gr_broker_relay.proofs.Forwarding.{new_runs, taken_forwarded, taken_acknowledged}
 use Rattle.gr_broker_relay.proofs.Reaching.{stays}
@@ -36,12 +37,12 @@ pub record Edits (net : Net) (p b : ℕ) (piece : Known) (v : View) (c : Changes
   pub finishes : RunsGive Q left (λ t. if is_A (wanted_at c.completed t) then F else known_at joined t)
 
 -- the same, of what a site says
-pub edits_at : (s : Site) (piece : Known) (v : View) (c : Changes) (left : Known) (wants pieces : List Wanted) (to : ℕ) → IsSite s → IsKept (net_of s.topo.now) s.publisher s.broker v → AreChanges (net_of s.topo.now) s.publisher s.broker v piece c → AreRuns Q v.know → EndBefore v.know (2 ^ 62 + 1) → AreRuns Q piece
-    → EndBefore piece (2 ^ 62 + 1) → to ≡ c.to → pieces ≡ c.quenched.items → AreTaken v.wants pieces wants → RunsGive Q left (λ t. if is_A (wanted_at c.completed t) then F else join_K (known_at v.know t) (known_at piece t)) → Edits (net_of s.topo.now) s.publisher s.broker piece v c (learned v.know piece) left wants to
+pub edits_at : (s : Site) (piece : Known) (v : View) (c : Changes) (left : Known) (wants pieces : List Wanted) (to : ℕ) → IsSite s → IsKept (net_of s.topo.now) s.publisher s.broker v → AreChanges (seen (net_of s.topo.now) v) s.publisher s.broker v piece c → AreRuns Q v.know → EndBefore v.know (2 ^ 62 + 1) → AreRuns Q piece
+    → EndBefore piece (2 ^ 62 + 1) → to ≡ c.to → pieces ≡ c.quenched.items → AreTaken v.wants pieces wants → RunsGive Q left (λ t. if is_A (wanted_at c.completed t) then F else join_K (known_at v.know t) (known_at piece t)) → Edits (seen (net_of s.topo.now) v) s.publisher s.broker piece v c (learned v.know piece) left wants to
 edits_at s piece v c left wants pieces to site kept changes a u b w there same taken finishes =
     let g : RunsGive Q (learned v.know piece) (λ t. join_K (known_at v.know t) (known_at piece t)) = joined_gives v.know piece a u b w in
     record {
-      kept = kept;
+      kept = kept_shown (net_of s.topo.now) (wants_with (net_of s.topo.now) v.joins) s.publisher s.broker v kept;
       changes = changes;
       know_runs = a;
       piece_runs = b;
@@ -120,6 +121,7 @@ module _ (net : Net) (p b : ℕ) (piece : Known) (v : View) (c : Changes) (joine
       dropped = λ below. absurd (false≢true (sym below ∙ host));
       asks_nobody = λ h. same ∙ e.kept.asks_nobody h;
       none_kept = none_there;
+      joins = e.kept.joins;
     }
 
   -- below it
@@ -144,4 +146,5 @@ module _ (net : Net) (p b : ℕ) (piece : Known) (v : View) (c : Changes) (joine
       dropped = λ _ t h. dropped_on v.know piece kept c.completed v.asks asks finals_in (e.kept.dropped below) t (asks_at t) h;
       asks_nobody = λ host. absurd (false≢true (sym below ∙ host));
       none_kept = none_there;
+      joins = e.kept.joins;
     }

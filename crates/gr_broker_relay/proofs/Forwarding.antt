@@ -3,6 +3,7 @@ use Rattle.std.proofs.Common.{◌≡◌, ℕ, suc, cond, nat_eq, ◌+◌, ◌<�
 use Rattle.std.specs.Prelude.{if◌then◌else◌, slice_index_or}
 use Rattle.std.proofs.lemmas.Bool.{cases_lt, eq-eqb, ne_eqb}
 use Rattle.std.proofs.lemmas.List.{ext_get_or, get_or_default}
+use Rattle.gr_event.specs.Joins.{Joins}
 use Rattle.gr_tick.specs.Runs.{AreRuns}
 use Rattle.gr_tick.specs.Stored.{RunsGive}
 use Rattle.gr_tick.proofs.RunLaws.{zip_runs-is}
@@ -17,11 +18,12 @@ use Rattle.gr_frame.specs.declared.Frame.{Frame}
 use Rattle.gr_frame.specs.Frames.{FrameList}
 use Rattle.gr_topo.specs.Topology.{children_of}
 use Rattle.gr_model.specs.Net.{Net}
-use Rattle.gr_model.specs.NetOf.{net_of, wantings_below}
-use Rattle.gr_model.specs.Broker.{new_ticks, passed, forward, know_frames, forward_wants}
+use Rattle.gr_model.specs.NetOf.{net_of}
+use Rattle.gr_model.specs.Broker.{View, seen, new_ticks, passed, forward, know_frames, forward_wants}
 use Rattle.gr_model_calls.proofs.calls.Passed.{passed-is}
 use Rattle.gr_broker_relay.specs.declared.place.Child.{Child}
 use Rattle.gr_broker_relay.specs.declared.site.Site.{Site}
+use Rattle.gr_broker_relay.specs.Branch.{wantings_below}
 use Rattle.gr_broker_relay.specs.Held.{IsSite}
 use Rattle.gr_broker_relay.specs.Changes.{AreTaken}
 use Rattle.gr_broker_relay.specs.Told.{AddsFrames}
@@ -36,20 +38,20 @@ edge_at s i c is lt e =
     child_edge s.topo.now s.broker s.publisher i s.edges.now s.position.now c (get_or s.edges.now c.edge []) is.branch is.edges lt e (get_or_default s.edges.now c.edge [] (get_or s.edges.now c.edge []) inside)
 
 -- so what passes it and was not acknowledged is what the machine forwards
-pub forwarded : (s : Site) (i : ℕ) (c : Child) (w : Wanted) (fresh let_by sent : Known) → IsSite s → i < length s.position.now.children.items → c ≡ get_or s.position.now.children.items i c → AreRuns Q fresh → AreRuns N w → RunsGive Q let_by (λ t. pass (slice_index_or s.edges.now c.edge []) [] t (known_at fresh t)) → RunsGive Q sent (λ t. if is_A (wanted_at w t) then Q else known_at let_by t) → sent ≡ forward (net_of s.topo.now) s.publisher (get_or (children_of s.topo.now s.publisher s.broker) i 0) w fresh
-forwarded s i c w fresh let_by sent is lt e a b g h =
-    sent_is s.topo.now s.publisher (get_or (children_of s.topo.now s.publisher s.broker) i 0) (get_or s.edges.now c.edge []) w fresh let_by sent (edge_at s i c is lt e) a b g h
+pub forwarded : (s : Site) (v : View) (i : ℕ) (c : Child) (w : Wanted) (fresh let_by sent : Known) → IsSite s → i < length s.position.now.children.items → c ≡ get_or s.position.now.children.items i c → AreRuns Q fresh → AreRuns N w → RunsGive Q let_by (λ t. pass (slice_index_or s.edges.now c.edge []) v.joins t (known_at fresh t)) → RunsGive Q sent (λ t. if is_A (wanted_at w t) then Q else known_at let_by t) → sent ≡ forward (seen (net_of s.topo.now) v) s.publisher (get_or (children_of s.topo.now s.publisher s.broker) i 0) w fresh
+forwarded s v i c w fresh let_by sent is lt e a b g h =
+    sent_is s.topo.now v s.publisher (get_or (children_of s.topo.now s.publisher s.broker) i 0) (get_or s.edges.now c.edge []) w fresh let_by sent (edge_at s i c is lt e) a b g h
 
 -- and where the child wants none of what passes it, that is all of it
-pub forwarded_whole : (s : Site) (i : ℕ) (c : Child) (w : Wanted) (fresh let_by : Known) → IsSite s → i < length s.position.now.children.items → c ≡ get_or s.position.now.children.items i c → AreRuns Q fresh → AreRuns N w → RunsGive Q let_by (λ t. pass (slice_index_or s.edges.now c.edge []) [] t (known_at fresh t)) → ((t : ℕ) → (known_at let_by t ≡ Q) ⊎ (wanted_at w t ≡ N)) → let_by ≡ forward (net_of s.topo.now) s.publisher (get_or (children_of s.topo.now s.publisher s.broker) i 0) w fresh
-forwarded_whole s i c w fresh let_by is lt e a b g untouched =
-    forwarded s i c w fresh let_by let_by is lt e a b g (sent_whole w let_by (λ t. pass (slice_index_or s.edges.now c.edge []) [] t (known_at fresh t)) g untouched)
+pub forwarded_whole : (s : Site) (v : View) (i : ℕ) (c : Child) (w : Wanted) (fresh let_by : Known) → IsSite s → i < length s.position.now.children.items → c ≡ get_or s.position.now.children.items i c → AreRuns Q fresh → AreRuns N w → RunsGive Q let_by (λ t. pass (slice_index_or s.edges.now c.edge []) v.joins t (known_at fresh t)) → ((t : ℕ) → (known_at let_by t ≡ Q) ⊎ (wanted_at w t ≡ N)) → let_by ≡ forward (seen (net_of s.topo.now) v) s.publisher (get_or (children_of s.topo.now s.publisher s.broker) i 0) w fresh
+forwarded_whole s v i c w fresh let_by is lt e a b g untouched =
+    forwarded s v i c w fresh let_by let_by is lt e a b g (sent_whole w let_by (λ t. pass (slice_index_or s.edges.now c.edge []) v.joins t (known_at fresh t)) g untouched)
 
 -- and so are its frames
-pub sends_forwarded : (s : Site) (i : ℕ) (c : Child) (sent new : Known) (before after : FrameList) → IsSite s → i < length s.position.now.children.items → c ≡ get_or s.position.now.children.items i c → sent ≡ new → AddsFrames (know_frames [] s.broker c.number s.publisher sent) before after → AddsFrames (know_frames [] s.broker (get_or (children_of s.topo.now s.publisher s.broker) i 0) s.publisher new) before after
-sends_forwarded s i c sent new before after is lt e same adds =
+pub sends_forwarded : (s : Site) (js : Joins) (i : ℕ) (c : Child) (sent new : Known) (before after : FrameList) → IsSite s → i < length s.position.now.children.items → c ≡ get_or s.position.now.children.items i c → sent ≡ new → AddsFrames (know_frames js s.broker c.number s.publisher sent) before after → AddsFrames (know_frames js s.broker (get_or (children_of s.topo.now s.publisher s.broker) i 0) s.publisher new) before after
+sends_forwarded s js i c sent new before after is lt e same adds =
     subst (λ (fs : List Frame). AddsFrames fs before after)
-    (ap₂ (λ n k. know_frames [] s.broker n s.publisher k) (child_number s.topo.now s.broker s.publisher i s.edges.now s.position.now c is.branch lt e) same) adds
+    (ap₂ (λ n k. know_frames js s.broker n s.publisher k) (child_number s.topo.now s.broker s.publisher i s.edges.now s.position.now c is.branch lt e) same) adds
 
 -- The runs of what is forwarded are canonical
 

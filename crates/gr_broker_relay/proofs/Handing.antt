@@ -11,7 +11,6 @@ use Rattle.gr_subend.specs.Deliveries.{items}
 use Rattle.gr_topo.specs.Topology.{TopologyView, home_of, subscribers_of}
 use Rattle.gr_model.specs.declared.report.Report.{Report}
 use Rattle.gr_model.specs.Net.{Net}
-use Rattle.gr_model.specs.NetOf.{net_of}
 use Rattle.gr_model.proofs.NetOf.{among}
 use Rattle.gr_model.specs.Broker.{data_ticks, delivery_lines}
 use Rattle.gr_broker_relay.specs.Handed.{told_to, lines_to}
@@ -45,9 +44,9 @@ delivers_none : (net : Net) (p h to : ℕ) (xs : List (ℕ × Event)) (s : ℕ) 
 unfolding delivery_lines
 delivers_none net p h to xs s e = rw (eq-eqb h to e) refl
 
-delivers_some : (t : TopologyView) (p h to : ℕ) (xs : List (ℕ × Event)) (s : ℕ) → (h ≡ to → ⊥) → delivery_lines (net_of t) p h to xs s ≡ told_to t p to xs s
+delivers_some : (net : Net) (p h to : ℕ) (xs : List (ℕ × Event)) (s : ℕ) → (h ≡ to → ⊥) → delivery_lines net p h to xs s ≡ told_to net p to xs s
 unfolding delivery_lines
-delivers_some t p h to xs s n = rw (ne_eqb h to n) refl
+delivers_some net p h to xs s n = rw (ne_eqb h to n) refl
 
 -- where the horizon stays nothing is told
 pub none_told : (net : Net) (p b h to : ℕ) (know : Known) (old new : List Report) → to ≡ h → new ≡ old → new ≡ old ++ lines_to net p b h to know
@@ -55,8 +54,8 @@ none_told net p b h to know old new e en =
     en ∙ sym (append-nil old) ∙ ap (λ xs. old ++ xs) (sym (none_each (delivery_lines net p h to (data_ticks h to know)) (net.subscribers_at b) (λ s. delivers_none net p h to (data_ticks h to know) s (sym e))))
 
 -- else each subscriber here is told what the horizon passed
-pub some_told : (t : TopologyView) (p b h to : ℕ) (know : Known) (ds : List Delivery) (here : List ℕ) → (to ≡ h → ⊥) → items ds ≡ data_ticks h to know → here ≡ subscribers_of t b
-    → flat_map (told_to t p to (items ds)) here ≡ lines_to (net_of t) p b h to know
-some_told t p b h to know ds here n passed eh =
-    ap₂ (λ xs ss. flat_map (told_to t p to xs) ss) passed eh
-    ∙ sym (same_each (delivery_lines (net_of t) p h to (data_ticks h to know)) (told_to t p to (data_ticks h to know)) (subscribers_of t b) (λ s. delivers_some t p h to (data_ticks h to know) s (λ q. n (sym q))))
+pub some_told : (net : Net) (p b h to : ℕ) (know : Known) (ds : List Delivery) (here : List ℕ) → (to ≡ h → ⊥) → items ds ≡ data_ticks h to know → here ≡ net.subscribers_at b
+    → flat_map (told_to net p to (items ds)) here ≡ lines_to net p b h to know
+some_told net p b h to know ds here n passed eh =
+    ap₂ (λ xs ss. flat_map (told_to net p to xs) ss) passed eh
+    ∙ sym (same_each (delivery_lines net p h to (data_ticks h to know)) (told_to net p to (data_ticks h to know)) (net.subscribers_at b) (λ s. delivers_some net p h to (data_ticks h to know) s (λ q. n (sym q))))

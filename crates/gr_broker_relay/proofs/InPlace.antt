@@ -83,6 +83,7 @@ module _ (net : Net) (p b now i : ℕ) (piece : Wanted) (v : View) (a : Answers)
       dropped = λ below. absurd (both_ways (is_host net p b) below host);
       asks_nobody = λ _. fits.asks_nobody host;
       none_kept = fits.none_kept;
+      joins = fits.joins;
     };
   }
     where
@@ -105,6 +106,7 @@ module _ (net : Net) (p b now i : ℕ) (piece : Wanted) (v : View) (a : Answers)
       dropped = λ _ t e. ap (λ z. asked_at z t) moments ∙ dropped_by left_over (noted now v.asks a.asked) l (noted-at now v.asks a.asked m asked.canonical).runs t e;
       asks_nobody = λ host. absurd (both_ways (is_host net p b) below host);
       none_kept = fits.none_kept;
+      joins = fits.joins;
     };
   }
     where

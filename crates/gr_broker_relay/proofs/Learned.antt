@@ -27,12 +27,13 @@ use Rattle.gr_curio.proofs.ValueLaws.{Q3_decides, moment_decides}
 use Rattle.gr_edge.specs.Pass as edge
 use Rattle.gr_topo.specs.Topology.{TopologyView}
 use Rattle.gr_model.specs.Net.{Net, keeps_horizon, is_host, not_empty}
-use Rattle.gr_model.specs.NetOf.{net_of, wantings_below}
-use Rattle.gr_model.specs.Broker.{View, Log, is_F, is_consolidated_by, consolidated, finished, forgotten, open_asks, max_tick, horizon_after, new_ticks, passed, forward, still_wanted, know_frames, forward_frames, forward_wants, kept_view, kept_view_below, learn}
-use Rattle.gr_model.proofs.NetWords.{pass_of}
+use Rattle.gr_model.specs.NetOf.{net_of}
+use Rattle.gr_model.specs.Broker.{View, Log, seen, is_F, is_consolidated_by, consolidated, finished, forgotten, open_asks, max_tick, horizon_after, new_ticks, passed, forward, still_wanted, know_frames, forward_frames, forward_wants, kept_view, kept_view_below, learn}
 use Rattle.gr_model_calls.proofs.calls.Passed.{passed-is}
 use Rattle.gr_model_calls.proofs.calls.Pieces.{consolidated-is}
 use Rattle.gr_model_calls.proofs.calls.Calls.{trimmed_host}
+use Rattle.gr_broker_relay.specs.Branch.{wantings_below}
+use Rattle.gr_broker_relay.proofs.Shown.{pass_shown}
 use Rattle.gr_broker_relay.proofs.LearnedTicks.{told_by_value, EndBefore-values, quench_value, consolidates_more, consolidates_same, finish_value}
 
 -- What is known
@@ -60,18 +61,18 @@ joined_gives know piece a u b v =
 -- What a child is sent
 
 -- what its edge passes
-pub passed_is_of : (t : TopologyView) (p c : ℕ) (ws : List edge.Wanting) (new let_by : Known) → ws ≡ wantings_below t p c → AreRuns Q new → RunsGive Q let_by (λ u. edge.pass ws [] u (known_at new u)) → let_by ≡ passed (net_of t) p c new
-passed_is_of t p c ws new let_by e a g =
-    let k = passed-is (net_of t) p c new a in
-    given_runs Q let_by (passed (net_of t) p c new) (λ u. edge.pass ws [] u (known_at new u)) g k.runs
-    (λ u. k.same_at u ∙ pass_of t p c u [] (known_at new u) ∙ ap (λ x. edge.pass x [] u (known_at new u)) (sym e))
+pub passed_is_of : (t : TopologyView) (v : View) (p c : ℕ) (ws : List edge.Wanting) (new let_by : Known) → ws ≡ wantings_below t p c → AreRuns Q new → RunsGive Q let_by (λ u. edge.pass ws v.joins u (known_at new u)) → let_by ≡ passed (seen (net_of t) v) p c new
+passed_is_of t v p c ws new let_by e a g =
+    let k = passed-is (seen (net_of t) v) p c new a in
+    given_runs Q let_by (passed (seen (net_of t) v) p c new) (λ u. edge.pass ws v.joins u (known_at new u)) g k.runs
+    (λ u. k.same_at u ∙ pass_shown t v p c u (known_at new u) ∙ ap (λ x. edge.pass x v.joins u (known_at new u)) (sym e))
 
 -- and what it has not acknowledged of that
-pub sent_is : (t : TopologyView) (p c : ℕ) (ws : List edge.Wanting) (w : Wanted) (new let_by sent : Known) → ws ≡ wantings_below t p c → AreRuns Q new → AreRuns N w → RunsGive Q let_by (λ u. edge.pass ws [] u (known_at new u)) → RunsGive Q sent (λ u. if is_A (wanted_at w u) then Q else known_at let_by u) → sent ≡ forward (net_of t) p c w new
+pub sent_is : (t : TopologyView) (v : View) (p c : ℕ) (ws : List edge.Wanting) (w : Wanted) (new let_by sent : Known) → ws ≡ wantings_below t p c → AreRuns Q new → AreRuns N w → RunsGive Q let_by (λ u. edge.pass ws v.joins u (known_at new u)) → RunsGive Q sent (λ u. if is_A (wanted_at w u) then Q else known_at let_by u) → sent ≡ forward (seen (net_of t) v) p c w new
 unfolding forward
-sent_is t p c ws w new let_by sent e a b g h =
+sent_is t v p c ws w new let_by sent e a b g h =
     given_zip Q N Q same_K K_decides (λ v x. if is_A x then Q else v) let_by w sent refl g.canonical b h
-    ∙ ap (λ z. zip_runs Q N Q same_K (λ v x. if is_A x then Q else v) z w) (passed_is_of t p c ws new let_by e a g)
+    ∙ ap (λ z. zip_runs Q N Q same_K (λ v x. if is_A x then Q else v) z w) (passed_is_of t v p c ws new let_by e a g)
 
 -- What the children want then
 
@@ -117,22 +118,22 @@ forward_wants-at net p new (c ∷ cs) (w ∷ ws) (suc i) e lt = forward_wants-at
 
 -- What each child is sent, in turn
 
-forward_from : (net : Net) (p b : ℕ) (new : Known) (cs : List ℕ) (ws : List Wanted) (i : ℕ) → length ws ≡ length cs → i < length ws → forward_frames [] net p b new (drop i cs) (drop i ws) ≡ know_frames [] b (get_or cs i 0) p (forward net p (get_or cs i 0) (wants_of ws i) new) ++ forward_frames [] net p b new (drop (suc i) cs) (drop (suc i) ws)
-forward_from net p b new [] [] i e lt = absurd (omega (arith, lt))
-forward_from net p b new [] (w ∷ ws) i e lt = absurd (omega (arith, e))
-forward_from net p b new (c ∷ cs) [] i e lt = absurd (omega (arith, lt))
-forward_from net p b new (c ∷ cs) (w ∷ ws) zero e lt = refl
-forward_from net p b new (c ∷ cs) (w ∷ ws) (suc i) e lt = forward_from net p b new cs ws i (omega (arith, e)) (omega (arith, lt))
+forward_from : (js : Joins) (net : Net) (p b : ℕ) (new : Known) (cs : List ℕ) (ws : List Wanted) (i : ℕ) → length ws ≡ length cs → i < length ws → forward_frames js net p b new (drop i cs) (drop i ws) ≡ know_frames js b (get_or cs i 0) p (forward net p (get_or cs i 0) (wants_of ws i) new) ++ forward_frames js net p b new (drop (suc i) cs) (drop (suc i) ws)
+forward_from js net p b new [] [] i e lt = absurd (omega (arith, lt))
+forward_from js net p b new [] (w ∷ ws) i e lt = absurd (omega (arith, e))
+forward_from js net p b new (c ∷ cs) [] i e lt = absurd (omega (arith, lt))
+forward_from js net p b new (c ∷ cs) (w ∷ ws) zero e lt = refl
+forward_from js net p b new (c ∷ cs) (w ∷ ws) (suc i) e lt = forward_from js net p b new cs ws i (omega (arith, e)) (omega (arith, lt))
 
 -- the frames to the children from one on
-pub forward_step : (net : Net) (p b : ℕ) (new : Known) (cs : List ℕ) (ws : List Wanted) (i : ℕ) → length ws ≡ length cs → i < length ws → forward_frames [] net p b new (drop i cs) (drop i ws) ≡ know_frames [] b (get_or cs i 0) p (forward net p (get_or cs i 0) (wants_of ws i) new) ++ forward_frames [] net p b new (drop (i + 1) cs) (drop (i + 1) ws)
-forward_step net p b new cs ws i e lt =
-    forward_from net p b new cs ws i e lt
-    ∙ ap (λ n. know_frames [] b (get_or cs i 0) p (forward net p (get_or cs i 0) (wants_of ws i) new) ++ forward_frames [] net p b new (drop n cs) (drop n ws)) (sym (add-one i))
+pub forward_step : (js : Joins) (net : Net) (p b : ℕ) (new : Known) (cs : List ℕ) (ws : List Wanted) (i : ℕ) → length ws ≡ length cs → i < length ws → forward_frames js net p b new (drop i cs) (drop i ws) ≡ know_frames js b (get_or cs i 0) p (forward net p (get_or cs i 0) (wants_of ws i) new) ++ forward_frames js net p b new (drop (i + 1) cs) (drop (i + 1) ws)
+forward_step js net p b new cs ws i e lt =
+    forward_from js net p b new cs ws i e lt
+    ∙ ap (λ n. know_frames js b (get_or cs i 0) p (forward net p (get_or cs i 0) (wants_of ws i) new) ++ forward_frames js net p b new (drop n cs) (drop n ws)) (sym (add-one i))
 
 -- and none past the last child
-pub forward_done : (net : Net) (p b : ℕ) (new : Known) (cs : List ℕ) (ws : List Wanted) (i : ℕ) → length cs ≤ i → forward_frames [] net p b new (drop i cs) (drop i ws) ≡ []
-forward_done net p b new cs ws i le = ap (λ ds. forward_frames [] net p b new ds (drop i ws)) (drop_all i cs le)
+pub forward_done : (js : Joins) (net : Net) (p b : ℕ) (new : Known) (cs : List ℕ) (ws : List Wanted) (i : ℕ) → length cs ≤ i → forward_frames js net p b new (drop i cs) (drop i ws) ≡ []
+forward_done js net p b new cs ws i le = ap (λ ds. forward_frames js net p b new ds (drop i ws)) (drop_all i cs le)
 
 -- What is final then
 

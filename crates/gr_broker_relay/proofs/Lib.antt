@@ -1,3 +1,4 @@
+pub mod Shown
 pub mod LearnedTicks
 pub mod Learned
 pub mod Marked

@@ -5,9 +5,8 @@ use Rattle.std.proofs.lemmas.List.{map_push, get_or-map, length-map, take_more}
 use Rattle.gr_edge.specs.Pass.{Wanting}
 use Rattle.gr_tree.specs.Walks.{numbers_from}
 use Rattle.gr_model.specs.Net.{numbers, numbers_from as count_from}
-use Rattle.gr_model.specs.NetOf.{wanting_of, wantings_below}
 use Rattle.gr_topo.specs.Topology.{TopologyView, children_of, below_of, size, is_child_at, passes_by, home_of}
-use Rattle.gr_broker_relay.specs.Branch.{branch_of, Branch}
+use Rattle.gr_broker_relay.specs.Branch.{branch_of, wanting_of, wantings_below, Branch}
 use Rattle.gr_broker_relay.specs.declared.place.Child.{Child}
 use Rattle.gr_broker_relay.specs.declared.place.Position.{Position}
 use Rattle.gr_broker_relay.specs.Held.{seen_branch, HasEdges}

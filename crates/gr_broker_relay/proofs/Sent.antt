@@ -38,24 +38,24 @@ adds_after fs gs before between after a b = record {
 }
 
 -- nothing makes no frame
-no_know_frames : (from to p : ℕ) → know_frames [] from to p [] ≡ []
+no_know_frames : (js : Joins) (from to p : ℕ) → know_frames js from to p [] ≡ []
 unfolding cut_frames
-no_know_frames from to p = refl
+no_know_frames js from to p = refl
 
 no_want_frames : (from to p : ℕ) → want_frames from to p [] ≡ []
 unfolding cut_frames
 no_want_frames from to p = refl
 
 -- the frames of a piece for a child, where it has no run, and where its frame was written
-pub sends_no_know : (from to p : ℕ) (piece : Known) (list : FrameList) → piece ≡ [] → AddsFrames (know_frames [] from to p piece) list list
-sends_no_know from to p piece list e = subst (λ fs. AddsFrames fs list list) (sym (ap (know_frames [] from to p) e ∙ no_know_frames from to p)) (adds_none list list refl)
+pub sends_no_know : (js : Joins) (from to p : ℕ) (piece : Known) (list : FrameList) → piece ≡ [] → AddsFrames (know_frames js from to p piece) list list
+sends_no_know js from to p piece list e = subst (λ fs. AddsFrames fs list list) (sym (ap (know_frames js from to p) e ∙ no_know_frames js from to p)) (adds_none list list refl)
 
-pub sends_know : {E : Type 0} (r : Result Unit E) (from to p : ℕ) (piece : Known) (js : Joins) (before after : FrameList) → js ≡ [] →
-    let f : Frame = record { head = head from to p; body = body.Knowledge piece js } in
-    OnOk r (after.frames ≡ before.frames ++ map frame_bytes (parts_of f)) → OnOk r (AreFrames (map frame_bytes (parts_of f)) (parts_of f)) → OnOk r (AddsFrames (know_frames [] from to p piece) before after)
+pub sends_know : {E : Type 0} (r : Result Unit E) (from to p : ℕ) (piece : Known) (shared js : Joins) (before after : FrameList) → shared ≡ js →
+    let f : Frame = record { head = head from to p; body = body.Knowledge piece shared } in
+    OnOk r (after.frames ≡ before.frames ++ map frame_bytes (parts_of f)) → OnOk r (AreFrames (map frame_bytes (parts_of f)) (parts_of f)) → OnOk r (AddsFrames (know_frames js from to p piece) before after)
 unfolding parts_of
-sends_know (Ok x) from to p piece js before after e a s = subst (λ (ks : Joins). AddsFrames (know_frames ks from to p piece) before after) e (record { added = a; spelled = s })
-sends_know (Err x) from to p piece js before after e a s = tt
+sends_know (Ok x) from to p piece shared js before after e a s = subst (λ (ks : Joins). AddsFrames (know_frames ks from to p piece) before after) e (record { added = a; spelled = s })
+sends_know (Err x) from to p piece shared js before after e a s = tt
 
 -- the same of a piece that goes up
 pub sends_no_want : (from to p : ℕ) (piece : Wanted) (list : FrameList) → piece ≡ [] → AddsFrames (want_frames from to p piece) list list
@@ -69,11 +69,11 @@ sends_want (Ok x) from to p piece before after a s = record { added = a; spelled
 sends_want (Err e) from to p piece before after a s = tt
 
 -- a reply to a child and then what is asked upstream
-pub sends_both : {E : Type 0} (r : Result Unit E) (net : Net) (p b c k : ℕ) (reply : Known) (copy asked : Wanted) (before between after : FrameList) → c ≡ k → copy ≡ asked → AddsFrames (know_frames [] b c p reply) before between → OnOk r (AddsFrames (up_frames net p b copy) between after) → OnOk r (AddsFrames (know_frames [] b k p reply ++ up_frames net p b asked) before after)
-sends_both (Err e) net p b c k reply copy asked before between after ec ea down up = tt
-sends_both (Ok x) net p b c k reply copy asked before between after ec ea down up =
-    adds_after (know_frames [] b k p reply) (up_frames net p b asked) before between after
-    (subst (λ n. AddsFrames (know_frames [] b n p reply) before between) ec down)
+pub sends_both : {E : Type 0} (r : Result Unit E) (js : Joins) (net : Net) (p b c k : ℕ) (reply : Known) (copy asked : Wanted) (before between after : FrameList) → c ≡ k → copy ≡ asked → AddsFrames (know_frames js b c p reply) before between → OnOk r (AddsFrames (up_frames net p b copy) between after) → OnOk r (AddsFrames (know_frames js b k p reply ++ up_frames net p b asked) before after)
+sends_both (Err e) js net p b c k reply copy asked before between after ec ea down up = tt
+sends_both (Ok x) js net p b c k reply copy asked before between after ec ea down up =
+    adds_after (know_frames js b k p reply) (up_frames net p b asked) before between after
+    (subst (λ n. AddsFrames (know_frames js b n p reply) before between) ec down)
     (subst (λ w. AddsFrames (up_frames net p b w) between after) ea up)
 
 -- what is told in an outcome that began with no frames

@@ -4,11 +4,10 @@ use Rattle.std.specs.List.{AllByRecursion}
 use Rattle.std.proofs.lemmas.List.{length-map, get_or-map}
 use Rattle.gr_edge.specs.Pass.{Wanting}
 use Rattle.gr_topo.specs.Topology.{TopologyView, children_of}
-use Rattle.gr_model.specs.NetOf.{wantings_below}
 use Rattle.gr_broker_relay.specs.declared.place.Child.{Child}
 use Rattle.gr_broker_relay.specs.declared.place.Position.{Position}
 use Rattle.gr_broker_relay.specs.Held.{seen_branch, HasEdges}
-use Rattle.gr_broker_relay.specs.Branch.{branch_of}
+use Rattle.gr_broker_relay.specs.Branch.{branch_of, wantings_below}
 
 -- what holds of each element holds of the one that is read
 holds_at : {X : Type 0} (P : X → Type 0) (xs : List X) (i : ℕ) (x : X) → i < length xs → x ≡ get_or xs i x → AllByRecursion P xs → P x

@@ -2,10 +2,7 @@
 use Rattle.std.specs.Prelude.{◌≡◌, ℕ, ◌+◌, ◌*◌, ◌≤◌, Bool, true, false, not, ◌&&◌, nat_le, if◌then◌else◌}
 use Rattle.std.specs.Prelude.{[], length, get_or, Some}
 use Rattle.gr_tick.specs.Stored.{RunsGive, needed}
-use Rattle.gr_know.specs.declared.values.K.{K}
-use Rattle.gr_know.specs.declared.values.K.TheVariants.{Q, F}
 use Rattle.gr_know.specs.Values.{Known, known_at, is_Q}
-use Rattle.gr_curio.specs.declared.values.Q3.{Q3}
 use Rattle.gr_curio.specs.declared.values.Q3.TheVariants.{N, C, A}
 use Rattle.gr_curio.specs.Values.{Wanted, wanted_at, asked_at, is_C, is_A}
 use Rattle.gr_curio.specs.Due.{due_of}

@@ -1,8 +1,20 @@
 -- Where a broker stands in a publisher's tree
-use Rattle.std.specs.Prelude.{ℕ, Bool, nat_eq, List, map, Option}
+use Rattle.std.specs.Prelude.{ℕ, Bool, nat_eq, if◌then◌else◌, List, map, Option, Some, None}
 use Rattle.gr_edge.specs.Pass.{Wanting}
-use Rattle.gr_topo.specs.Topology.{TopologyView, host_of, up_at, children_of, keeps_horizon_at}
-use Rattle.gr_model.specs.NetOf.{wantings_below}
+use Rattle.gr_topo.specs.Topology.{TopologyView, host_of, up_at, children_of, keeps_horizon_at, filter_of, late_of}
+use Rattle.gr_topo.specs.Topology.{below_of}
+
+-- the number of a subscriber, where it is late
+abbrev pub late_number : TopologyView → ℕ → Option ℕ
+late_number t s = if late_of t s then Some s else None
+
+-- what a subscriber behind an edge wants
+abbrev pub wanting_of : TopologyView → ℕ → Wanting
+wanting_of t s = record { filter = filter_of t s; late = late_number t s }
+
+-- what the subscribers at a broker and beyond it want
+abbrev pub wantings_below : TopologyView → ℕ → ℕ → List Wanting
+wantings_below t p b = map (wanting_of t) (below_of t p b)
 
 -- where a broker stands in a publisher's tree
 pub record Branch : Type 0 where

@@ -1,26 +1,31 @@
 -- What a broker keeps in memory, as the machine sees it
-use Rattle.std.specs.Prelude.{◌≡◌, ℕ, ◌<◌, List, [], length, map, get_or}
+use Rattle.std.specs.Prelude.{◌≡◌, ◌<◌, List, [], length, map, get_or}
 use Rattle.std.specs.List.{AllByRecursion}
 use Rattle.gr_curio.specs.Wants.{runs_of}
 use Rattle.gr_edge.specs.Pass.{Wanting}
-use Rattle.gr_topo.specs.Topology.{subscribers_of}
-use Rattle.gr_model.specs.Net.{numbers}
-use Rattle.gr_model.specs.Broker.{View}
+use Rattle.gr_topo.specs.Topology.{TopologyView, subscribers_of}
+use Rattle.gr_model.specs.Net.{Net, numbers}
+use Rattle.gr_model.specs.NetOf.{net_of}
+use Rattle.gr_model.specs.Broker.{View, seen}
 use Rattle.gr_broker_relay.specs.declared.held.Held.{Held}
 use Rattle.gr_broker_relay.specs.declared.place.Position.{Position}
 use Rattle.gr_broker_relay.specs.declared.site.Seat.{Seat}
 use Rattle.gr_broker_relay.specs.declared.site.Site.{Site}
 use Rattle.gr_broker_relay.specs.Branch.{Branch, branch_of}
 
--- what is kept of one publisher; no joins are
+-- what is kept of one publisher
 abbrev pub held_view : Held → View
 held_view h = record {
   know = h.know.runs;
   wants = runs_of h.wants;
   asks = h.asks.runs;
   horizon = h.horizon;
-  joins = [];
+  joins = h.joins;
 }
+
+-- the net that this shows: a late subscriber wants what is past its join, as the held joins say
+abbrev pub shown_net : TopologyView → Held → Net
+shown_net t h = seen (net_of t) (held_view h)
 
 -- a position over the edges that all publishers share
 abbrev pub seen_branch : List (List Wanting) → Position → Branch

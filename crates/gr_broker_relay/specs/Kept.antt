@@ -4,7 +4,7 @@ use Rattle.gr_know.specs.declared.values.K.TheVariants.{F}
 use Rattle.gr_know.specs.Values.{known_at}
 use Rattle.gr_curio.specs.declared.asks.Moment.TheVariants.{Never}
 use Rattle.gr_curio.specs.Values.{asked_at}
-use Rattle.gr_model.specs.Net.{Net, is_host, keeps_horizon}
+use Rattle.gr_model.specs.Net.{Net, is_host, keeps_horizon, all_late}
 use Rattle.gr_model.specs.Broker.{View, is_consolidated_by}
 
 pub record IsKept (net : Net) (p b : ℕ) (v : View) : Type 0 where
@@ -17,3 +17,5 @@ pub record IsKept (net : Net) (p b : ℕ) (v : View) : Type 0 where
   pub asks_nobody : is_host net p b ≡ true → v.asks ≡ []
   -- a horizon that is not kept is 0
   pub none_kept : keeps_horizon net p b ≡ false → v.horizon ≡ 0
+  -- only late subscribers join
+  pub joins : all_late net v.joins ≡ true

@@ -2,7 +2,7 @@
 use Rattle.std.specs.Prelude.{◌≡◌, ℕ, ◌<◌, ◌≤◌, List, [], length, map, get_or}
 use Rattle.gr_edge.specs.Pass.{Wanting}
 use Rattle.gr_topo.specs.Topology.{TopologyView}
-use Rattle.gr_model.specs.NetOf.{wanting_of}
+use Rattle.gr_broker_relay.specs.Branch.{wanting_of}
 use Rattle.gr_broker_relay.specs.declared.place.EdgeTable.{EdgeTable}
 
 -- each edge has what the subscribers behind it want

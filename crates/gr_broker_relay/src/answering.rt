@@ -10,10 +10,11 @@ ghost use Rattle.gr_curio.specs.declared.values.Q3.TheVariants.{N};
 ghost use Rattle.gr_pubend.specs.Log.{Log};
 ghost use Rattle.gr_topo.specs.Topology.{TopologyView, children_of};
 ghost use Rattle.gr_model.specs.Net.{Net, is_host};
-ghost use Rattle.gr_model.specs.NetOf.{net_of, wantings_below};
+ghost use Rattle.gr_model.specs.NetOf.{net_of};
 ghost use Rattle.gr_model.specs.Broker.{Outcome as MachineOutcome, curiosity, know_frames, up_frames};
+ghost use Rattle.gr_broker_relay.specs.Branch.{wantings_below};
 ghost use Rattle.gr_broker_relay.specs.Kept.{IsKept};
-ghost use Rattle.gr_broker_relay.specs.Held.{held_view, IsSite};
+ghost use Rattle.gr_broker_relay.specs.Held.{held_view, shown_net, IsSite};
 ghost use Rattle.gr_broker_relay.specs.Told.{Tells, AddsFrames, IsBlank};
 ghost use Rattle.gr_broker_relay.specs.Answers.{reply_to, last_completed, AreAnswers, HasAnswerRoom};
 
@@ -25,7 +26,6 @@ use crate::site::Site;
 use gr_broker_walks::{left_of, quenched, said_of};
 use gr_curio::{Q3, Wants};
 use gr_edge::Edge;
-use gr_event::Joins;
 use gr_know::K;
 use gr_outbox::Outbox;
 use gr_tick::{MAX_TICK, Piece};
@@ -58,10 +58,10 @@ pub fn take_curiosity(
     requires child { i < length (children_of site.now.topo.now site.now.publisher site.now.broker) }
     requires kept { IsKept (net_of site.now.topo.now) site.now.publisher site.now.broker (held_view held.old) }
     requires blank { IsBlank into.old }
-    ensures told { let net : Net = net_of site.now.topo.now in OnOk result ((log : Log) →
+    ensures told { let net : Net = shown_net site.now.topo.now held.old in OnOk result ((log : Log) →
         Tells (curiosity net site.now.publisher site.now.broker now
         (get_or (net.children site.now.publisher site.now.broker) i 0) i piece.now (held_view held.old) log) into.new) }
-    ensures view { let net : Net = net_of site.now.topo.now in OnOk result ((log : Log) →
+    ensures view { let net : Net = shown_net site.now.topo.now held.old in OnOk result ((log : Log) →
         let o : MachineOutcome = curiosity net site.now.publisher site.now.broker now
         (get_or (net.children site.now.publisher site.now.broker) i 0) i piece.now (held_view held.old) log in
         held_view held.new ≡ o.view) }
@@ -88,11 +88,11 @@ fn plan_answers(
     requires site { IsSite site.now }
     requires child { i < length (children_of site.now.topo.now site.now.publisher site.now.broker) }
     requires kept { IsKept (net_of site.now.topo.now) site.now.publisher site.now.broker (held_view held.now) }
-    ensures adds { let net : Net = net_of site.now.topo.now in OnOk result ((log : Log) →
+    ensures adds { let net : Net = shown_net site.now.topo.now held.now in OnOk result ((log : Log) →
         let o : MachineOutcome = curiosity net site.now.publisher site.now.broker now
         (get_or (net.children site.now.publisher site.now.broker) i 0) i piece.now (held_view held.now) log in
         AddsFrames o.frames into.old into.new) }
-    ensures answers { let net : Net = net_of site.now.topo.now in IfOk result (λ answers.
+    ensures answers { let net : Net = shown_net site.now.topo.now held.now in IfOk result (λ answers.
         AreAnswers net site.now.publisher site.now.broker now i piece.now (held_view held.now) answers) }
 {
     // Proof only: the runs of all three are canonical.
@@ -106,7 +106,7 @@ fn plan_answers(
         .wants
         .completed(Some(i), &left, last_completed(site, held))?;
     let asked = asked_upstream(site, held, &left, now)?;
-    send_answers(site, i, reply, &asked, into)?;
+    send_answers(site, held, i, reply, &asked, into)?;
     Ok(Answers {
         left,
         answered,
@@ -118,6 +118,7 @@ fn plan_answers(
 /// Puts the frames of a reply to the child at place `i`, and those of what is asked upstream, at the end of a list.
 fn send_answers(
     site: &Site<'_>,
+    held: &Held,
     i: usize,
     reply: Piece<K>,
     asked: &Piece<Q3>,
@@ -127,10 +128,11 @@ fn send_answers(
     requires child { i < length (children_of site.now.topo.now site.now.publisher site.now.broker) }
     ensures { let net : Net = net_of site.now.topo.now in
         let child : ℕ = get_or (net.children site.now.publisher site.now.broker) i 0 in
-        OnOk result (AddsFrames (know_frames [] site.now.broker child site.now.publisher reply
+        OnOk result (AddsFrames (know_frames held.now.joins site.now.broker child site.now.publisher reply
         ++ up_frames net site.now.publisher site.now.broker asked.now) into.old into.new) }
 {
-    send_down(site, site.position.children[i].number, reply, into)?;
+    let child = site.position.children[i].number;
+    send_down(site, &held.joins, child, reply, into)?;
     send_up(site, asked.copy()?, into)
 }
 
@@ -140,7 +142,7 @@ fn reply_of(site: &Site<'_>, held: &Held, i: usize, piece: &Piece<Q3>) -> Result
     requires site { IsSite site.now }
     requires child { i < length (children_of site.now.topo.now site.now.publisher site.now.broker) }
     requires wants { i < length held.now.wants }
-    ensures { let net : Net = net_of site.now.topo.now in IfOk result (λ reply.
+    ensures { let net : Net = shown_net site.now.topo.now held.now in IfOk result (λ reply.
         reply ≡ reply_to net site.now.publisher site.now.broker i piece.now (held_view held.now)) }
 {
     // Proof only: the runs of all three are canonical.
@@ -148,7 +150,7 @@ fn reply_of(site: &Site<'_>, held: &Held, i: usize, piece: &Piece<Q3>) -> Result
     let _ = held.wants.len(i);
     let _ = piece.len();
     let said = said_of(site.alloc, piece, &held.know, &held.wants, i)?;
-    edge_to(site, i).pass(&said, &Joins::new(site.alloc))
+    edge_to(site, i).pass(&said, &held.joins)
 }
 
 /// The edge to the child at place `i`.
@@ -251,10 +253,10 @@ fn apply_answers(
     requires site { IsSite site.now }
     requires child { i < length (children_of site.now.topo.now site.now.publisher site.now.broker) }
     requires kept { IsKept (net_of site.now.topo.now) site.now.publisher site.now.broker (held_view held.old) }
-    requires answers { let net : Net = net_of site.now.topo.now in
+    requires answers { let net : Net = shown_net site.now.topo.now held.old in
         AreAnswers net site.now.publisher site.now.broker now i piece.now (held_view held.old) answers.now }
     requires room { HasAnswerRoom (not site.now.position.now.host) i held.old answers.now }
-    ensures view { let net : Net = net_of site.now.topo.now in (log : Log) →
+    ensures view { let net : Net = shown_net site.now.topo.now held.old in (log : Log) →
         let o : MachineOutcome = curiosity net site.now.publisher site.now.broker now
         (get_or (net.children site.now.publisher site.now.broker) i 0) i piece.now (held_view held.old) log in
         held_view held.new ≡ o.view }

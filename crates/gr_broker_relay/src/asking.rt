@@ -19,7 +19,7 @@ ghost use Rattle.gr_model.specs.NetOf.{net_of};
 ghost use Rattle.gr_model.specs.Broker.{Outcome as MachineOutcome, is_consolidated_by, consolidated, upward, up_frames};
 ghost use Rattle.gr_model.specs.Broker.{noted, kept_view, wake_below, expect, expect_frame, expect_frames, covers};
 ghost use Rattle.gr_broker_relay.specs.Kept.{IsKept};
-ghost use Rattle.gr_broker_relay.specs.Held.{held_view, IsSite};
+ghost use Rattle.gr_broker_relay.specs.Held.{held_view, shown_net, IsSite};
 ghost use Rattle.gr_broker_relay.specs.Told.{Tells, AddsFrames, IsBlank};
 
 use crate::held::Held;
@@ -148,13 +148,13 @@ fn note_asked(site: &Site<'_>, held: &mut Held, asked: &Piece<Q3>, now: u64)
     requires kept { IsKept (net_of site.now.topo.now) site.now.publisher site.now.broker (held_view held.old) }
     requires unknown { (t : ℕ) → is_C (wanted_at asked.now t) ≡ true → known_at held.old.know.runs t ≡ Q }
     requires room { length asked.now * 2 ≤ held.old.asks.spare }
-    ensures view { let net : Net = net_of site.now.topo.now in held_view held.new
+    ensures view { let net : Net = shown_net site.now.topo.now held.old in held_view held.new
         ≡ kept_view net site.now.publisher site.now.broker (record {
           know = held.old.know.runs;
           wants = runs_of held.old.wants;
           asks = noted now held.old.asks.runs asked.now;
           horizon = held.old.horizon;
-          joins = [];
+          joins = held.old.joins;
         }) }
     ensures kept { IsKept (net_of site.now.topo.now) site.now.publisher site.now.broker (held_view held.new) }
     ensures log { held.new.log ≡ held.old.log }
@@ -174,9 +174,9 @@ pub fn wake_below(site: &Site<'_>, held: &mut Held, now: u64) -> Result<Outcome,
     requires below { is_host (net_of site.now.topo.now) site.now.publisher site.now.broker ≡ false }
     requires now { now ≤ MAX_TICK }
     requires kept { IsKept (net_of site.now.topo.now) site.now.publisher site.now.broker (held_view held.old) }
-    ensures told { let net : Net = net_of site.now.topo.now in IfOk result (λ told. (log : Log) →
+    ensures told { let net : Net = shown_net site.now.topo.now held.old in IfOk result (λ told. (log : Log) →
         Tells (wake_below net site.now.publisher site.now.broker now (held_view held.old) log) told) }
-    ensures view { let net : Net = net_of site.now.topo.now in OnOk result ((log : Log) →
+    ensures view { let net : Net = shown_net site.now.topo.now held.old in OnOk result ((log : Log) →
         let o : MachineOutcome = wake_below net site.now.publisher site.now.broker now (held_view held.old) log in
         held_view held.new ≡ o.view) }
     ensures err { OnErr result (held_view held.new ≡ held_view held.old) }
@@ -191,8 +191,8 @@ pub fn wake_below(site: &Site<'_>, held: &mut Held, now: u64) -> Result<Outcome,
     Ok(told)
 }
 
-/// Takes the tick that is to be expected, from upstream, at the moment `now` in milliseconds. What that sends is put into
-/// an outcome that told nothing before. At want of memory all else is as it was.
+/// Takes the tick that is to be expected, from upstream, at the moment `now` in milliseconds. What that sends is put
+/// into an outcome that told nothing before. At want of memory all else is as it was.
 pub fn take_expect(
     site: &Site<'_>,
     held: &mut Held,
@@ -206,9 +206,9 @@ pub fn take_expect(
     requires upto { tick ≤ MAX_TICK }
     requires kept { IsKept (net_of site.now.topo.now) site.now.publisher site.now.broker (held_view held.old) }
     requires blank { IsBlank into.old }
-    ensures told { let net : Net = net_of site.now.topo.now in OnOk result ((log : Log) →
+    ensures told { let net : Net = shown_net site.now.topo.now held.old in OnOk result ((log : Log) →
         Tells (expect net site.now.publisher site.now.broker now tick (held_view held.old) log) into.new) }
-    ensures view { let net : Net = net_of site.now.topo.now in OnOk result ((log : Log) →
+    ensures view { let net : Net = shown_net site.now.topo.now held.old in OnOk result ((log : Log) →
         let o : MachineOutcome = expect net site.now.publisher site.now.broker now tick (held_view held.old) log in
         held_view held.new ≡ o.view) }
     ensures err { OnErr result (held_view held.new ≡ held_view held.old) }

@@ -22,10 +22,10 @@ ghost use Rattle.gr_topo.specs.Topology.{passes_filter};
 ghost use Rattle.gr_model.specs.Net.{Net, is_host, keeps_horizon};
 ghost use Rattle.gr_model.specs.NetOf.{net_of};
 ghost use Rattle.gr_model.specs.Broker.{Outcome as MachineOutcome, is_F, forgotten, max_tick};
-ghost use Rattle.gr_model.specs.Broker.{forward, forward_frames, know_frames, learn, new_ticks};
+ghost use Rattle.gr_model.specs.Broker.{forward, forward_frames, got_line, know_frames, learn, new_ticks};
 ghost use Rattle.gr_broker_relay.specs.Kept.{IsKept};
-ghost use Rattle.gr_broker_relay.specs.Held.{held_view, IsSite};
-ghost use Rattle.gr_broker_relay.specs.Handed.{told_to, lines_to};
+ghost use Rattle.gr_broker_relay.specs.Held.{held_view, shown_net, IsSite};
+ghost use Rattle.gr_broker_relay.specs.Handed.{got_by, got_in_time, got_late, told_to, lines_to};
 ghost use Rattle.gr_broker_relay.specs.Told.{Tells, Adds, AddsFrames, IsBlank};
 ghost use Rattle.gr_broker_relay.specs.Changes.{AreChanges, HasRoom, AreTaken, reached, learned, sent_to};
 
@@ -67,12 +67,11 @@ pub fn plan_learning(
     requires site { IsSite site.now }
     requires kept { IsKept (net_of site.now.topo.now) site.now.publisher site.now.broker (held_view held.now) }
     ensures adds { OnOk result ((log : Log) →
-        let net : Net = net_of site.now.topo.now in
+        let net : Net = shown_net site.now.topo.now held.now in
         let o : MachineOutcome = learn net site.now.publisher site.now.broker piece.now (held_view held.now) log in
         Adds o.lines o.frames into.old into.new) }
-    ensures changes { IfOk result (λ changes.
-        AreChanges (net_of site.now.topo.now) site.now.publisher site.now.broker (held_view held.now) piece.now
-        changes) }
+    ensures changes { let net : Net = shown_net site.now.topo.now held.now in IfOk result (λ changes.
+        AreChanges net site.now.publisher site.now.broker (held_view held.now) piece.now changes) }
 {
     let to = horizon_with(site, held, piece);
     deliver(site, held, piece, to, &mut into.reports)?;
@@ -117,7 +116,7 @@ fn deliver(
     requires later { held.now.horizon ≤ to }
     requires inside { to ≤ MAX_TICK }
     ensures { OnOk result (reports.new ≡ reports.old
-        ++ lines_to (net_of site.now.topo.now) site.now.publisher site.now.broker held.now.horizon to
+        ++ lines_to (shown_net site.now.topo.now held.now) site.now.publisher site.now.broker held.now.horizon to
         (learned held.now.know.runs piece.now)) }
 {
     // Proof only: the runs of both are canonical.
@@ -127,54 +126,123 @@ fn deliver(
         return Ok(());
     }
     let deliveries = held.horizon.coming_upto(site.alloc, &held.know, piece, to)?;
-    hand_over(site, deliveries.as_slice(), to, reports)
+    hand_over(site, held, deliveries.as_slice(), to, reports)
 }
 
-/// Tells each subscriber here the events that its filter passes, and the horizon.
+/// Tells each subscriber here the events that it wants, and the horizon.
 fn hand_over(
     site: &Site<'_>,
+    held: &Held,
     deliveries: &[Delivery],
     to: u64,
     reports: &mut Reports,
 ) -> Result<(), Memory>
     requires { IsSite site.now }
-    ensures { OnOk result (reports.new ≡ reports.old
-        ++ flat_map (told_to site.now.topo.now site.now.publisher to (items deliveries.now)) site.now.here.now) }
+    ensures { let net : Net = shown_net site.now.topo.now held.now in OnOk result (reports.new ≡ reports.old
+        ++ flat_map (told_to net site.now.publisher to (items deliveries.now)) site.now.here.now) }
 {
     'here: for subscriber in site.here {
-        hand_to(site, *subscriber, deliveries, to, reports)?;
+        hand_to(site, held, *subscriber, deliveries, to, reports)?;
     }
     Ok(())
 }
 
-/// Tells one subscriber the events that its filter passes, and the horizon.
+/// Tells one subscriber the events that it wants, and the horizon.
 fn hand_to(
     site: &Site<'_>,
+    held: &Held,
     subscriber: u16,
     deliveries: &[Delivery],
     to: u64,
     reports: &mut Reports,
 ) -> Result<(), Memory>
     requires { subscriber < length site.now.topo.now.subscribers }
-    ensures { OnOk result (reports.new
-        ≡ reports.old ++ told_to site.now.topo.now site.now.publisher to (items deliveries.now) subscriber) }
+    ensures { let net : Net = shown_net site.now.topo.now held.now in OnOk result (reports.new
+        ≡ reports.old ++ told_to net site.now.publisher to (items deliveries.now) subscriber) }
 {
-    let filter = site.topo.filter(subscriber);
-    'deliveries: for delivery in deliveries {
-        if passes(filter, &delivery.event) {
-            reports.push(Report::Got {
-                subscriber,
-                publisher: site.publisher,
-                tick: delivery.tick,
-                event: delivery.event.share(),
-            })?;
-        }
-    }
+    hand_wanted(site, &held.joins, subscriber, deliveries, reports)?;
     reports.push(Report::Horizon {
         subscriber,
         publisher: site.publisher,
         tick: to,
     })
+}
+
+/// Tells one subscriber the events that it wants: one in time those that its filter passes, a late one those of them
+/// that are past its join.
+fn hand_wanted(
+    site: &Site<'_>,
+    joins: &Joins,
+    subscriber: u16,
+    deliveries: &[Delivery],
+    reports: &mut Reports,
+) -> Result<(), Memory>
+    requires { subscriber < length site.now.topo.now.subscribers }
+    ensures { OnOk result (reports.new ≡ reports.old
+        ++ got_by site.now.topo.now joins.now site.now.publisher (items deliveries.now) subscriber) }
+{
+    if site.topo.late(subscriber) {
+        return hand_late(site, joins, subscriber, deliveries, reports);
+    }
+    hand_in_time(site, subscriber, deliveries, reports)
+}
+
+/// Tells a subscriber in time the events that its filter passes.
+fn hand_in_time(
+    site: &Site<'_>,
+    subscriber: u16,
+    deliveries: &[Delivery],
+    reports: &mut Reports,
+) -> Result<(), Memory>
+    requires { subscriber < length site.now.topo.now.subscribers }
+    ensures { OnOk result (reports.new
+        ≡ reports.old ++ got_in_time site.now.topo.now site.now.publisher (items deliveries.now) subscriber) }
+{
+    let filter = site.topo.filter(subscriber);
+    'deliveries: for delivery in deliveries {
+        if passes(filter, &delivery.event) {
+            reports.push(got(site, subscriber, delivery))?;
+        }
+    }
+    Ok(())
+}
+
+/// Tells a late subscriber the events past its join that its filter passes. One that has not joined is told of none.
+fn hand_late(
+    site: &Site<'_>,
+    joins: &Joins,
+    subscriber: u16,
+    deliveries: &[Delivery],
+    reports: &mut Reports,
+) -> Result<(), Memory>
+    requires { subscriber < length site.now.topo.now.subscribers }
+    ensures { OnOk result (reports.new ≡ reports.old
+        ++ got_late site.now.topo.now joins.now site.now.publisher (items deliveries.now) subscriber) }
+{
+    // Proof only: no subscriber joins twice.
+    let _ = joins.len();
+    let Some(join) = joins.tick_of(subscriber) else {
+        return Ok(());
+    };
+    let filter = site.topo.filter(subscriber);
+    'deliveries: for delivery in deliveries {
+        if join < delivery.tick && passes(filter, &delivery.event) {
+            reports.push(got(site, subscriber, delivery))?;
+        }
+    }
+    Ok(())
+}
+
+/// The line of an event that a subscriber gets.
+fn got(site: &Site<'_>, subscriber: u16, delivery: &Delivery) -> Report
+    ensures { result ≡ got_line subscriber site.now.publisher (delivery.now.tick, delivery.now.event) }
+{
+    Report::Got {
+        subscriber,
+        publisher: site.publisher,
+        tick: delivery.tick,
+        event: delivery.event.share(),
+    }
 }
 
 /// Whether a filter passes an event; where there is none every event passes.
@@ -198,11 +266,11 @@ fn forward_news(
 ) -> Result<Vec<Piece<Q3>>, Memory>
     requires site { IsSite site.now }
     requires wants { length held.now.wants ≡ length site.now.position.now.children.items }
-    ensures adds { let net : Net = net_of site.now.topo.now in
-        OnOk result (AddsFrames (forward_frames [] net site.now.publisher site.now.broker
+    ensures adds { let net : Net = shown_net site.now.topo.now held.now in
+        OnOk result (AddsFrames (forward_frames held.now.joins net site.now.publisher site.now.broker
         (new_ticks held.now.know.runs piece.now) (net.children site.now.publisher site.now.broker)
         (runs_of held.now.wants)) into.old into.new) }
-    ensures each { let net : Net = net_of site.now.topo.now in
+    ensures each { let net : Net = shown_net site.now.topo.now held.now in
         IfOk result (λ quenched. (i : ℕ) → i < length (runs_of held.now.wants) →
         RunsGive N (slice_index_or quenched.items i []) (λ t. if not (is_Q (known_at
         (sent_to net site.now.publisher site.now.broker (held_view held.now) piece.now i) t))
@@ -215,10 +283,10 @@ fn forward_news(
     let _ = held.know.len();
     let _ = piece.len();
     if is_past(&held.know, piece) {
-        return forward(site, &held.wants, piece, into);
+        return forward(site, held, piece, into);
     }
     let fresh = held.know.news(piece)?;
-    forward(site, &held.wants, &fresh, into)
+    forward(site, held, &fresh, into)
 }
 
 /// Whether a piece begins past all that is known: then all of it is new.
@@ -238,23 +306,24 @@ fn is_past(know: &Know, piece: &Piece<K>) -> bool
 /// child the ticks that it asked and is sent.
 fn forward(
     site: &Site<'_>,
-    wants: &Wants,
+    held: &Held,
     fresh: &Piece<K>,
     into: &mut Outbox,
 ) -> Result<Vec<Piece<Q3>>, Memory>
     requires site { IsSite site.now }
-    requires wants { length wants.now ≡ length site.now.position.now.children.items }
-    ensures adds { let net : Net = net_of site.now.topo.now in
-        OnOk result (AddsFrames (forward_frames [] net site.now.publisher site.now.broker fresh.now
-        (net.children site.now.publisher site.now.broker) (runs_of wants.now)) into.old into.new) }
-    ensures each { let net : Net = net_of site.now.topo.now in IfOk result (λ quenched. (i : ℕ) → i < length wants.now →
+    requires wants { length held.now.wants ≡ length site.now.position.now.children.items }
+    ensures adds { let net : Net = shown_net site.now.topo.now held.now in
+        OnOk result (AddsFrames (forward_frames held.now.joins net site.now.publisher site.now.broker fresh.now
+        (net.children site.now.publisher site.now.broker) (runs_of held.now.wants)) into.old into.new) }
+    ensures each { let net : Net = shown_net site.now.topo.now held.now in
+        IfOk result (λ quenched. (i : ℕ) → i < length held.now.wants →
         RunsGive N (slice_index_or quenched.items i []) (λ t. if not (is_Q (known_at (forward net site.now.publisher
-        (get_or (net.children site.now.publisher site.now.broker) i 0) (wants_of (runs_of wants.now) i) fresh.now) t))
-        && is_C (wanted_at (wants_of (runs_of wants.now) i) t) then C else N)) }
+        (get_or (net.children site.now.publisher site.now.broker) i 0) (wants_of (runs_of held.now.wants) i) fresh.now)
+        t)) && is_C (wanted_at (wants_of (runs_of held.now.wants) i) t) then C else N)) }
 {
     let mut all = Vec::new(site.alloc);
     for i in 0..site.position.children.len() {
-        let quenched = forward_to(site, i, wants, fresh, into)?;
+        let quenched = forward_to(site, held, i, fresh, into)?;
         put_at(site.alloc, &mut all, i, quenched)?;
     }
     Ok(all)
@@ -291,47 +360,47 @@ fn put_at(
 /// that it asked and is sent. Where it neither asked nor acknowledged any of them, they are sent as they are.
 fn forward_to(
     site: &Site<'_>,
+    held: &Held,
     i: usize,
-    wants: &Wants,
     fresh: &Piece<K>,
     into: &mut Outbox,
 ) -> Result<Piece<Q3>, Memory>
     requires site { IsSite site.now }
     requires child { i < length site.now.position.now.children.items }
-    requires wants { i < length wants.now }
-    ensures adds { let net : Net = net_of site.now.topo.now in
+    requires wants { i < length held.now.wants }
+    ensures adds { let net : Net = shown_net site.now.topo.now held.now in
         let c : ℕ = get_or (net.children site.now.publisher site.now.broker) i 0 in
-        OnOk result (AddsFrames (know_frames [] site.now.broker c site.now.publisher
-        (forward net site.now.publisher c (wants_of (runs_of wants.now) i) fresh.now)) into.old into.new) }
-    ensures quenched { let net : Net = net_of site.now.topo.now in
+        OnOk result (AddsFrames (know_frames held.now.joins site.now.broker c site.now.publisher
+        (forward net site.now.publisher c (wants_of (runs_of held.now.wants) i) fresh.now)) into.old into.new) }
+    ensures quenched { let net : Net = shown_net site.now.topo.now held.now in
         let c : ℕ = get_or (net.children site.now.publisher site.now.broker) i 0 in
         IfOk result (λ quenched. RunsGive N quenched (λ t.
-        if not (is_Q (known_at (forward net site.now.publisher c (wants_of (runs_of wants.now) i) fresh.now) t))
-        && is_C (wanted_at (wants_of (runs_of wants.now) i) t) then C else N)) }
+        if not (is_Q (known_at (forward net site.now.publisher c (wants_of (runs_of held.now.wants) i) fresh.now) t))
+        && is_C (wanted_at (wants_of (runs_of held.now.wants) i) t) then C else N)) }
 {
     // Proof only: the runs are canonical.
     let _ = fresh.len();
-    let _ = wants.len(i);
+    let _ = held.wants.len(i);
     let child = site.position.children[i];
-    let passed = pass_edge(site.alloc, site.edges, child.edge, fresh)?;
-    if is_untouched(&passed, wants, i) {
-        send_down(site, child.number, passed, into)?;
+    let passed = pass_edge(site.edges, child.edge, fresh, &held.joins)?;
+    if is_untouched(&passed, &held.wants, i) {
+        send_down(site, &held.joins, child.number, passed, into)?;
         return Ok(Piece::new(site.alloc));
     }
-    let sent = unacknowledged(site.alloc, &passed, wants, i)?;
-    let answered = quenched(site.alloc, &sent, wants, i)?;
-    send_down(site, child.number, sent, into)?;
+    let sent = unacknowledged(site.alloc, &passed, &held.wants, i)?;
+    let answered = quenched(site.alloc, &sent, &held.wants, i)?;
+    send_down(site, &held.joins, child.number, sent, into)?;
     Ok(answered)
 }
 
-/// What an edge passes of a piece, where nobody has joined.
-fn pass_edge(alloc: Global, edges: &[Edge], i: usize, piece: &Piece<K>) -> Result<Piece<K>, Memory>
+/// What an edge passes of a piece, where these are the joins.
+fn pass_edge(edges: &[Edge], i: usize, piece: &Piece<K>, joins: &Joins) -> Result<Piece<K>, Memory>
     requires { i < length edges.now }
     ensures { IfOk result (λ passed. RunsGive Q passed
-        (λ t. pass (slice_index_or edges.now i []) [] t (known_at piece.now t))) }
+        (λ t. pass (slice_index_or edges.now i []) joins.now t (known_at piece.now t))) }
 {
     let edge = &edges[i];
-    edge.pass(piece, &Joins::new(alloc))
+    edge.pass(piece, joins)
 }
 
 /// The ticks that a horizon passes and all children have acknowledged, with `A`: all that it passes where there is no
@@ -417,12 +486,12 @@ fn reserve_wants(wants: &mut Wants, pieces: &[Piece<Q3>]) -> Result<(), Memory>
 pub fn apply_learning(site: &Site<'_>, held: &mut Held, piece: &Piece<K>, changes: &Changes)
     requires site { IsSite site.now }
     requires kept { IsKept (net_of site.now.topo.now) site.now.publisher site.now.broker (held_view held.old) }
-    requires changes { AreChanges (net_of site.now.topo.now) site.now.publisher site.now.broker (held_view held.old)
-        piece.now changes.now }
+    requires changes { let net : Net = shown_net site.now.topo.now held.old in
+        AreChanges net site.now.publisher site.now.broker (held_view held.old) piece.now changes.now }
     requires room { HasRoom (not site.now.position.now.host) held.old piece.now changes.now }
     requires goes { (is_host (net_of site.now.topo.now) site.now.publisher site.now.broker ≡ true)
         ⊎ ((t : ℕ) → clash_K (known_at held.old.know.runs t) (known_at piece.now t) ≡ false) }
-    ensures view { (log : Log) → let net : Net = net_of site.now.topo.now in
+    ensures view { (log : Log) → let net : Net = shown_net site.now.topo.now held.old in
         let o : MachineOutcome = learn net site.now.publisher site.now.broker piece.now (held_view held.old) log in
         held_view held.new ≡ o.view }
     ensures kept { IsKept (net_of site.now.topo.now) site.now.publisher site.now.broker (held_view held.new) }
@@ -621,9 +690,9 @@ pub fn learn(
     requires goes { (is_host (net_of site.now.topo.now) site.now.publisher site.now.broker ≡ true)
         ⊎ ((t : ℕ) → clash_K (known_at held.old.know.runs t) (known_at piece.now t) ≡ false) }
     requires blank { IsBlank into.old }
-    ensures told { let net : Net = net_of site.now.topo.now in OnOk result ((log : Log) →
+    ensures told { let net : Net = shown_net site.now.topo.now held.old in OnOk result ((log : Log) →
         Tells (learn net site.now.publisher site.now.broker piece.now (held_view held.old) log) into.new) }
-    ensures view { let net : Net = net_of site.now.topo.now in OnOk result ((log : Log) →
+    ensures view { let net : Net = shown_net site.now.topo.now held.old in OnOk result ((log : Log) →
         let o : MachineOutcome = learn net site.now.publisher site.now.broker piece.now (held_view held.old) log in
         held_view held.new ≡ o.view) }
     ensures err { OnErr result (held_view held.new ≡ held_view held.old) }

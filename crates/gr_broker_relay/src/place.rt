@@ -4,8 +4,7 @@ ghost use Rattle.std.specs.Prelude.{◌≡◌, ℕ, ◌<◌, ◌≤◌, [], leng
 ghost use Rattle.std.specs.List.{AllByRecursion};
 ghost use Rattle.gr_topo.specs.Topology.{children_of};
 ghost use Rattle.gr_model.specs.Net.{numbers};
-ghost use Rattle.gr_model.specs.NetOf.{wanting_of, wantings_below};
-ghost use Rattle.gr_broker_relay.specs.Branch.{branch_of};
+ghost use Rattle.gr_broker_relay.specs.Branch.{branch_of, late_number, wanting_of, wantings_below};
 ghost use Rattle.gr_broker_relay.specs.Held.{seen_branch, HasEdges};
 ghost use Rattle.gr_broker_relay.specs.Positions.{AreEdges, Keeps};
 
@@ -43,7 +42,17 @@ pub(crate) struct EdgeTable {
     pub behind: Vec<Numbers>,
 }
 
-/// The edge that has these subscribers behind it. None is late yet.
+/// The number of a subscriber, where it is late.
+fn late_number(topo: &Topology, s: u16) -> Option<u16>
+    ensures { result ≡ late_number topo.now s }
+{
+    if topo.late(s) {
+        return Some(s);
+    }
+    None
+}
+
+/// The edge that has these subscribers behind it.
 fn edge_of(alloc: Global, topo: &Topology, behind: &[u16]) -> Result<Edge, Memory>
     requires known { (i : ℕ) → i < length behind.now → get_or behind.now i 0 < length topo.now.subscribers }
     requires few { length behind.now ≤ length topo.now.subscribers }
@@ -52,7 +61,7 @@ fn edge_of(alloc: Global, topo: &Topology, behind: &[u16]) -> Result<Edge, Memor
     let _ = topo.subscribers();
     let mut edge = Edge::new(alloc);
     'subscribers: for s in behind {
-        edge.add(topo.filter(*s), None)?;
+        edge.add(topo.filter(*s), late_number(topo, *s))?;
     }
     Ok(edge)
 }

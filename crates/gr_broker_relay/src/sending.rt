@@ -15,15 +15,17 @@ use gr_know::K;
 use gr_outbox::Outbox;
 use gr_tick::Piece;
 
-/// Puts the frames of a piece for a child at the end of a list, without joins. A piece with no run makes no frame.
+/// Puts the frames of a piece for a child at the end of a list, each with these joins. A piece with no run makes no
+/// frame.
 pub(crate) fn send_down(
     site: &Site<'_>,
+    joins: &Joins,
     child: u16,
     piece: Piece<K>,
     into: &mut Outbox,
 ) -> Result<(), Memory>
     ensures { OnOk result (AddsFrames
-        (know_frames [] site.now.broker child site.now.publisher piece) into.old into.new) }
+        (know_frames joins.now site.now.broker child site.now.publisher piece) into.old into.new) }
 {
     if piece.is_empty() {
         drop(piece);
@@ -37,7 +39,7 @@ pub(crate) fn send_down(
         },
         body: Body::Knowledge {
             piece,
-            joins: Joins::new(site.alloc),
+            joins: joins.share(),
         },
     };
     into.push(site.alloc, frame)

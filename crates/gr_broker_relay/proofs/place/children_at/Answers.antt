@@ -1,5 +1,5 @@
 use Rattle.std.proofs.Common.{◌≡◌, ◌<◌, ◌++◌, ◌∷◌, [], length, map, get_or, refl, ap, ◌∙◌}
-use Rattle.gr_model.specs.NetOf.{wanting_of}
+use Rattle.gr_broker_relay.specs.Branch.{wanting_of}
 use Rattle.gr_broker_relay.specs.declared.place.Child.{Child}
 use Rattle.gr_broker_relay.proofs.Placing.{child_in, known_below, few_below, numbers_more_of, behind_more, bounds_stay, all_push, keeps_on}
 use Rattle.gr_broker_relay.proofs.place.children_at.Goals as goal

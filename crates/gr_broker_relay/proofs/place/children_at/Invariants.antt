@@ -1,6 +1,6 @@
 use Rattle.std.proofs.Common.{◌≡◌, ◌<◌, [], length, map, get_or, take}
 use Rattle.std.specs.List.{AllByRecursion}
-use Rattle.gr_model.specs.NetOf.{wantings_below}
+use Rattle.gr_broker_relay.specs.Branch.{wantings_below}
 use Rattle.gr_broker_relay.specs.Positions.{AreEdges, Keeps}
 use Rattle.gr_broker_relay.proofs.place.children_at.Given as goal
 

@@ -1,5 +1,5 @@
 use Rattle.std.proofs.Common.{◌≡◌, length, map, take}
-use Rattle.gr_model.specs.NetOf.{wanting_of}
+use Rattle.gr_broker_relay.specs.Branch.{wanting_of}
 use Rattle.gr_broker_relay.proofs.place.edge_of.Given as goal
 
 -- the subscribers so far

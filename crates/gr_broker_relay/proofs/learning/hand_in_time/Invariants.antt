@@ -3,7 +3,7 @@ use Rattle.std.specs.Prelude.{filter}
 use Rattle.gr_subend.specs.Deliveries.{items}
 use Rattle.gr_topo.specs.Topology.{wants}
 use Rattle.gr_model.specs.Broker.{got_line}
-use Rattle.gr_broker_relay.proofs.learning.hand_to.Given as goal
+use Rattle.gr_broker_relay.proofs.learning.hand_in_time.Given as goal
 
 -- with the events that are left all are told
 abbrev pub invariant-deliveries : goal.invariant-deliveries
