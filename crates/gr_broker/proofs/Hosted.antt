@@ -1,14 +1,14 @@
 -- What the host logs, in the machine's words: the log with one record more, and which crashes lie before and which
 -- after the end of the first of two appends
-use Rattle.std.proofs.Common.{◌≡◌, ◌⊎◌, inl, inr, ⊎_elim, ℕ, suc, ◌+◌, ◌-◌, ◌≤◌, Bool, true, false, List, [], ◌∷◌, ◌++◌, length, Option, Some, None, Result, Ok, Err, refl, sym, ap, ◌∙◌, subst, arith, le_refl, length-append, append-nil}
+use Rattle.std.proofs.Common.{◌≡◌, ◌⊎◌, inl, inr, ⊎_elim, ℕ, suc, ◌+◌, ◌≤◌, Bool, true, false, List, [], ◌∷◌, ◌++◌, length, map, Option, Some, None, Result, Ok, Err, refl, sym, ap, ◌∙◌, subst, arith, le_refl, length-append, append-nil}
 use Rattle.std.specs.Prelude.{nat_le, nat_lt, if◌then◌else◌, option_map, OnOk, IsErrOf}
 use Rattle.std.proofs.lemmas.Bool.{leb-true, lt-ltb, le-ltb}
 use Rattle.gr_event.specs.declared.event.Event.{Event}
 use Rattle.gr_out.specs.Lane.{Lane, Call, LeftFrom, LeftSince, moment}
 use Rattle.gr_know.specs.Values.{Known}
-use Rattle.gr_curio.specs.declared.values.Q3.TheVariants.{A}
 use Rattle.gr_publog.specs.declared.record.Record.{Record}
 use Rattle.gr_publog.specs.declared.record.Record.TheVariants as entry
+use Rattle.gr_frame.specs.Bytes.{frame_bytes}
 use Rattle.gr_frame.specs.Cut.{AreFrames}
 use Rattle.gr_publog.specs.declared.record.LogFault.{LogFault}
 use Rattle.gr_publog.specs.declared.record.LogFault.TheVariants as fault
@@ -20,16 +20,19 @@ use Rattle.gr_pubend.specs.declared.answers.Published.{Published}
 use Rattle.gr_pubend.specs.declared.answers.Published.TheVariants as publishes
 use Rattle.gr_pubend.specs.declared.answers.Quieted.{Quieted}
 use Rattle.gr_pubend.specs.declared.answers.Quieted.TheVariants as quiets
-use Rattle.gr_pubend.specs.Answers.{published, quieted, event_of, mark_of, publish_logs, quiet_logs}
+use Rattle.gr_pubend.specs.declared.answers.Joined.{Joined}
+use Rattle.gr_pubend.specs.declared.answers.Joined.TheVariants as joined
+use Rattle.gr_pubend.specs.Answers.{published, quieted, joined_at, event_of, mark_of, join_of, publish_logs, quiet_logs, join_logs}
 use Rattle.gr_pubend.proofs.Knowing.{log_more}
 use Rattle.gr_model.specs.declared.report.Report.{Report}
 use Rattle.gr_model.specs.declared.report.Report.TheVariants as line
 use Rattle.gr_model.specs.Net.{Net, keeps_horizon}
-use Rattle.gr_model.specs.Broker.{View, Outcome, consolidated, learn, done_upto, cutting, marking, marking_by, publish, publish_by, says, wake_host, expect_frames}
+use Rattle.gr_model.specs.Broker.{View, Outcome, consolidated, learn, done_upto, cutting, marking, marking_by, publish, publish_by, joining, joining_by, says, wake_host, expect_frames, seen, with_joins, view_joined}
 use Rattle.gr_broker_relay.specs.declared.outcome.Outcome.{Outcome as Told}
 use Rattle.gr_broker_relay.specs.Told.{Tells, Adds}
 use Rattle.gr_broker_relay.specs.Cuts.{tick_cut}
-use Rattle.gr_broker.specs.Hosted.{cut_logs}
+use Rattle.gr_broker.specs.Hosted.{cut_logs, join_with, join_by}
+use Rattle.gr_broker.proofs.Joined.{logged_tick}
 use Rattle.gr_broker.specs.Host.{tick_marked, mark_lines, cut_lines, expected_frames}
 
 -- The log with one record more
@@ -63,6 +66,16 @@ pub marking_is : (net : Net) (p b now : ℕ) (v : View) (log : Log) (answer : Qu
 unfolding marking
 marking_is net p b now v log answer is = ap (marking_by net p b v log) is
 
+-- a join, at the net that the held list shows then
+pub join_is : (net : Net) (p b now s : ℕ) (v : View) (log : Log) (answer : Joined) → joined_at log s now ≡ answer → join_with net p b now s v log ≡ joining_by (seen net (view_joined log s now v)) p b s v log answer
+unfolding joining
+join_is net p b now s v log answer is = ap (joining_by (seen net (view_joined log s now v)) p b s v log) is
+
+pub join_logged : (net : Net) (p b now s : ℕ) (v : View) (log : Log) (tick : ℕ) (fresh : Known) → joined_at log s now ≡ joined.Logged tick fresh → join_with net p b now s v log ≡ join_by net p b s v log tick fresh
+join_logged net p b now s v log tick fresh is =
+    join_is net p b now s v log (joined.Logged tick fresh) is
+    ∙ ap (λ (t : ℕ). joining_by (seen net (with_joins v (log.joins ++ record { subscriber = s; tick = t } ∷ []))) p b s v log (joined.Logged tick fresh)) (sym (logged_tick log s now tick fresh is))
+
 -- What a log has then
 
 -- after a publish it has the record that the publish logs
@@ -75,6 +88,16 @@ publish_log_is net p b now number e v rs = go (published (log_of rs) number e no
     go publishes.Already = refl
     go (publishes.Gap next) = refl
     go publishes.Exhausted = refl
+
+-- after a join that of the join
+pub join_log_is : (net : Net) (p b now s : ℕ) (v : View) (rs : List Record) → log_of (records_with rs (join_logs rs s now)) ≡ (join_with net p b now s v (log_of rs)).log
+unfolding joining learn
+join_log_is net p b now s v rs = go (joined_at (log_of rs) s now)
+  where
+    go : (answer : Joined) → log_of (records_with rs (join_of answer s)) ≡ (joining_by (seen net (view_joined (log_of rs) s now v)) p b s v (log_of rs) answer).log
+    go (joined.Logged tick fresh) = grows_to rs (entry.Join tick s)
+    go joined.Already = refl
+    go joined.Exhausted = refl
 
 -- after a time of silence that of the mark
 pub marking_log_is : (net : Net) (p b now : ℕ) (v : View) (rs : List Record) → log_of (records_with rs (quiet_logs rs now net.quiet)) ≡ (marking net p b now v (log_of rs)).log
@@ -179,6 +202,17 @@ host_woken net p b now v log quiet = ap (λ marks. cut_after marks (cut_by (nat_
 pub line_told : {T : Type 0} (answer : Result T LogFault) (told : Told) (v : View) (log : Log) (r : Report) → OnOk answer (told.reports ≡ r ∷ []) → OnOk answer (told.frames.frames ≡ []) → OnOk answer (Tells (says v log r) told)
 line_told (Ok x) told v log r lines frames = record { lines = lines; frames = frames; spelled = subst (λ fs. AreFrames fs []) (sym frames) tt }
 line_told (Err e) told v log r lines frames = tt
+
+-- a line, and what is told and sent behind it
+pub line_first : (mid told : Told) (o : Outcome) (r : Report) → mid.reports ≡ r ∷ [] → mid.frames.frames ≡ [] → Adds o.lines o.frames mid told →
+    Tells (record { view = o.view; log = o.log; lines = r ∷ o.lines; frames = o.frames }) told
+line_first mid told o r lines frames adds =
+    let sent : told.frames.frames ≡ map frame_bytes o.frames = adds.frames.added ∙ ap (λ fs. fs ++ map frame_bytes o.frames) frames in
+    record {
+      lines = adds.lines ∙ ap (λ ls. ls ++ o.lines) lines;
+      frames = sent;
+      spelled = subst (λ fs. AreFrames fs o.frames) (sym sent) adds.frames.spelled;
+    }
 
 -- what holds anyway holds where the answer is `Ok`
 pub on_ok : {T E : Type 0} (answer : Result T E) (P : Type 0) → P → OnOk answer P

@@ -1,3 +1,4 @@
+pub mod Joined
 pub mod Hosted
 pub mod Twice
 pub mod Fresh

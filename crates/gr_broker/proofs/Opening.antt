@@ -206,6 +206,7 @@ module _ (t : TopologyView) (b : ℕ) (here : List ℕ) (branches : List Branch)
       hosted = λ p k. (s.each p k).hosted;
       lanes = λ p l e. (s.each p (let k : p < length t.publishers = omega (arith, place_of_log logs p l e, s.as_many) in k)).lane l e;
       late = λ p l e. (s.each p (let k : p < length t.publishers = omega (arith, place_of_log logs p l e, s.as_many) in k)).late l e;
+      joined = λ p l e. (s.each p (let k : p < length t.publishers = omega (arith, place_of_log logs p l e, s.as_many) in k)).joined l e;
     };
     views = λ p k. (s.each p k).view;
     lines = s.told;

@@ -12,7 +12,7 @@ use Rattle.gr_publog.specs.Crash.{LogView}
 use Rattle.gr_out.specs.Lane.{Lane}
 use Rattle.gr_publog.specs.Calls.{Appends, Leaves, records_with}
 use Rattle.gr_pubend.specs.Log.{log_of}
-use Rattle.gr_pubend.specs.Answers.{published, event_of, publish_logs}
+use Rattle.gr_pubend.specs.Answers.{published, event_of, publish_logs, joined_at, join_of, join_logs}
 use Rattle.gr_model.specs.Net.{Net}
 use Rattle.gr_model.specs.Broker.{View, publish}
 use Rattle.gr_model.specs.World.{blank_view}
@@ -20,8 +20,8 @@ use Rattle.gr_broker_relay.specs.declared.held.Held.{Held}
 use Rattle.gr_broker_relay.specs.declared.place.Position.{Position}
 use Rattle.gr_broker_relay.specs.Held.{held_view, seen_branch}
 use Rattle.gr_broker.specs.Seen.{BrokerView, view_in, log_in, log_said, with_view, with_log, with_logged, with_failed, broken_at, logs_of, seen_broker}
-use Rattle.gr_broker.specs.Hosted.{AppendsAt}
-use Rattle.gr_broker.proofs.Hosted.{publish_log_is}
+use Rattle.gr_broker.specs.Hosted.{AppendsAt, join_with}
+use Rattle.gr_broker.proofs.Hosted.{publish_log_is, join_log_is}
 
 module _ (number : ℕ) (here : List ℕ) (edges : List (List Wanting)) (places : List Position) (held : List Held) (p : ℕ) (h : Held) (lt : p < length held) (e : h ≡ get_or held p h) where
   -- the broker with these parts
@@ -178,6 +178,16 @@ said_after net p b now number e v (Some l) s = by_record (publish_logs l.records
     by_record None = refl
     by_record (Some r) = refl
 said_after net p b now number e v None s = absurd (false≢true s)
+
+-- and once a join was
+pub said_joined : (net : Net) (p b now s : ℕ) (v : View) (o : Option LogView) → IsSome o →
+    log_said (with_logged o (join_of (joined_at (log_said o) s now) s)) ≡ (join_with net p b now s v (log_said o)).log
+said_joined net p b now s v (Some l) is = by_record (join_logs l.records s now) ∙ join_log_is net p b now s v l.records
+  where
+    by_record : (r : Option Record) → log_said (with_logged (Some l) r) ≡ log_of (records_with l.records r)
+    by_record None = refl
+    by_record (Some r) = refl
+said_joined net p b now s v None is = absurd (false≢true is)
 
 -- what a call does to the lane of a publisher that is here
 pub appends_at : {T : Type 0} (b : BrokerView) (p : ℕ) (r : Option Record) (before after : ℕ → Lane) (result : Result T LogFault) →

@@ -17,7 +17,7 @@ use Rattle.gr_broker_relay.specs.declared.held.Held.{Held}
 use Rattle.gr_broker_relay.specs.declared.place.Position.{Position}
 use Rattle.gr_broker_relay.specs.Held.{held_view, seen_branch}
 use Rattle.gr_broker.specs.Seen.{BrokerView, view_in, seen_broker}
-use Rattle.gr_broker.specs.Receipt.{Receipt, no_frame, stray, clash, taken, receipt, receipt_of_fit, view_after, after_receipt}
+use Rattle.gr_broker.specs.Receipt.{Receipt, no_frame, stray, split, clash, taken, receipt, receipt_of_fit, view_after, after_receipt}
 
 -- a fault that is not want of memory is that of the bytes
 fails_as : {X : Type 0} (k : FrameKind) (at : ℕ) (read : Result X FrameFault) → (k ≡ kind.Memory → ⊥) → FailsAs k at read → read ≡ Err (fault k at)
@@ -97,6 +97,7 @@ put_back number here edges places held p h h' f r ep lt e el ev = go r ev
     go : (r : Receipt) → held_view h' ≡ view_after r (held_view h) → seen_broker number here edges places (set held p h') ≡ after_receipt (Ok f) r (seen_broker number here edges places held)
     go (taken o) ev = views_and (seen_set held_view held p h' ∙ ap₂ (λ (i : ℕ) v. set (map held_view held) i v) (sym ep) ev)
     go (no_frame x) ev = views_and (same_set held_view held p h' h lt (ev ∙ ap held_view e))
+    go (split x) ev = views_and (same_set held_view held p h' h lt (ev ∙ ap held_view e))
     go (stray x) ev = views_and (same_set held_view held p h' h lt (ev ∙ ap held_view e))
     go (clash t k x) ev = views_and (same_set held_view held p h' h lt (ev ∙ ap held_view e))
 

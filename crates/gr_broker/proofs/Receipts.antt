@@ -1,10 +1,11 @@
 -- What becomes of a frame that came: the tick of a clash is the one that the machine names, a child that is found is in place, the log
 -- passes through, and where nothing is learned no frame is sent
-use Rattle.std.proofs.Common.{◌≡◌, ◌≢◌, ◌⊎◌, inl, inr, ℕ, suc, ◌<◌, ◌≤◌, Bool, true, false, List, [], ◌∷◌, ◌++◌, length, get_or, Option, Some, None, Ok, refl, sym, ap, ap₂, ◌∙◌, subst, arith}
-use Rattle.std.specs.Prelude.{◌↔◌, ◌^◌, nat_eq, if◌then◌else◌, IsSome}
+use Rattle.std.proofs.Common.{◌≡◌, ◌≢◌, ◌⊎◌, inl, inr, ℕ, suc, ◌<◌, ◌≤◌, Bool, true, false, List, [], ◌∷◌, ◌++◌, length, get_or, Option, Some, None, Result, Ok, Err, OnOk, OnErr, ◌&&◌, refl, sym, ap, ap₂, ◌∙◌, subst, arith}
+use Rattle.std.specs.Prelude.{◌↔◌, ◌^◌, nat_eq, nat_lt, if◌then◌else◌, is_some, IsSome, ◌||◌}
 use Rattle.std.specs.List.{list_any}
-use Rattle.std.proofs.lemmas.Bool.{cases_lt, cases_eq, true≢false, eqb-true, ne_eqb}
-use Rattle.gr_event.specs.Joins.{Joins}
+use Rattle.std.proofs.lemmas.Bool.{cases_lt, cases_eq, true≢false, eqb-true, ltb-true, ne_eqb, and_parts}
+use Rattle.gr_event.specs.Joins.{Joins, first_split, longer}
+use Rattle.gr_event.specs.declared.join.Split.{Split}
 use Rattle.gr_tick.specs.Runs.{AreRuns, tabulate, tabulate_from, tabulate_sorted, sorted, points}
 use Rattle.gr_know.specs.declared.values.K.{K}
 use Rattle.gr_know.specs.declared.values.K.TheVariants.{Q}
@@ -19,14 +20,15 @@ use Rattle.gr_frame.specs.Bytes.{cut_frames}
 use Rattle.gr_frame.specs.Limits.{IsBody}
 use Rattle.gr_frame.proofs.Fields.{AreBytes}
 use Rattle.gr_frame.proofs.Told.{decoded_spells}
-use Rattle.gr_topo.specs.Topology.{TopologyView, host_of, up_at, IsTopology}
+use Rattle.gr_topo.specs.Topology.{TopologyView, host_of, up_at, children_of, IsTopology}
 use Rattle.gr_model.specs.Net.{Net, is_host, not_empty}
 use Rattle.gr_model.specs.NetOf.{net_of}
 use Rattle.gr_model.proofs.NetOf.{net_is_orderly}
-use Rattle.gr_model.specs.Broker.{View, Log, Outcome, new_ticks, passed, forward, forward_frames, learn, curiosity, asking, expect, clashes, place_of, receive, empty_log}
-use Rattle.gr_model.specs.Arrivals.{clash_runs, first_of}
+use Rattle.gr_model.specs.Broker.{View, Log, Outcome, new_ticks, passed, forward, forward_frames, learn, curiosity, asking, expect, clashes, drops, place_of, receive, empty_log, seen, with_joins}
+use Rattle.gr_model.specs.Arrivals.{clash_runs, first_of, fits_broker, joins_fit}
 use Rattle.gr_model_calls.proofs.runs.LeastClash.{clash_is_least, none_clashes}
-use Rattle.gr_broker.specs.Receipt.{clash, taken, receipt_of_fit, comes_over}
+use Rattle.gr_broker.specs.Receipt.{Receipt, split, clash, taken, receipt_of_piece, receipt_of_joined, receipt_of_fit, view_after, comes_over}
+use Rattle.gr_broker.proofs.Joined.{curiosity_joins}
 
 -- The least tick of a clash
 
@@ -121,9 +123,10 @@ not_host t p b u is i e = go (cases_eq (host_of t p) b)
 -- What the machine does with a frame, by its body
 
 -- what is known is learned
-pub receive_knowledge : {js : Joins} (net : Net) (now : ℕ) (f : Frame) (v : View) (log : Log) (runs : Known) → f.body ≡ body.Knowledge runs js → clashes v.know runs ≡ false → receive net now f v log ≡ learn net f.head.publisher f.head.to runs v log
+pub receive_knowledge : (net : Net) (now : ℕ) (f : Frame) (v : View) (log : Log) (runs : Known) (js : Joins) → f.body ≡ body.Knowledge runs js → drops v runs js ≡ false →
+    receive net now f v log ≡ learn net f.head.publisher f.head.to runs (with_joins v (longer v.joins js)) log
 unfolding receive
-receive_knowledge net now f v log runs e c = rw (receive, e, c) refl
+receive_knowledge net now f v log runs js e c = rw (receive, e, c) refl
 
 -- what is asked or acknowledged comes from the child in its place
 pub receive_curiosity : (net : Net) (now i : ℕ) (f : Frame) (v : View) (log : Log) (runs : Wanted) → f.body ≡ body.Curiosity runs → i ≡ place_of f.head.from (net.children f.head.publisher f.head.to) →
@@ -154,14 +157,14 @@ expect_on_log : (net : Net) (p b now tick : ℕ) (v : View) (log : Log) → expe
 unfolding expect asking
 expect_on_log net p b now tick v log = refl
 
--- what is done with a body; with knowledge, given whether it clashes
-abbrev learned_by : Net → Frame → View → Log → Known → Bool → Outcome
-learned_by net f v log runs q = elim q [ true ↦ record { view = v; log = log; lines = []; frames = [] } | false ↦ learn net f.head.publisher f.head.to runs v log ]
+-- what is done with a body; with knowledge, given whether it is dropped
+abbrev learned_by : Net → Frame → View → Log → Known → Joins → Bool → Outcome
+learned_by net f v log runs js q = elim q [ true ↦ record { view = v; log = log; lines = []; frames = [] } | false ↦ learn net f.head.publisher f.head.to runs (with_joins v (longer v.joins js)) log ]
 
 abbrev received_by : Net → ℕ → Frame → View → Log → Body → Outcome
 received_by net now f v log y =
     elim y [
-      | body.Knowledge runs js ↦ learned_by net f v log runs (clashes v.know runs)
+      | body.Knowledge runs js ↦ learned_by net f v log runs js (drops v runs js)
       | body.Curiosity runs ↦ curiosity net f.head.publisher f.head.to now f.head.from (place_of f.head.from (net.children f.head.publisher f.head.to)) runs v log
       | body.Expect tick ↦ expect net f.head.publisher f.head.to now tick v log
     ]
@@ -171,12 +174,12 @@ pub receive_on_log : (net : Net) (now : ℕ) (f : Frame) (v : View) (log : Log) 
 unfolding receive
 receive_on_log net now f v log = go f.body
   where
-    learned : (runs : Known) (q : Bool) → learned_by net f v log runs q ≡ on_log (learned_by net f v empty_log runs q) log
-    learned runs true = refl
-    learned runs false = learn_on_log net f.head.publisher f.head.to runs v log
+    learned : (runs : Known) (js : Joins) (q : Bool) → learned_by net f v log runs js q ≡ on_log (learned_by net f v empty_log runs js q) log
+    learned runs js true = refl
+    learned runs js false = learn_on_log net f.head.publisher f.head.to runs (with_joins v (longer v.joins js)) log
 
     go : (y : Body) → received_by net now f v log y ≡ on_log (received_by net now f v empty_log y) log
-    go (body.Knowledge runs js) = learned runs (clashes v.know runs)
+    go (body.Knowledge runs js) = learned runs js (drops v runs js)
     go (body.Curiosity runs) = curiosity_on_log net f.head.publisher f.head.to now f.head.from (place_of f.head.from (net.children f.head.publisher f.head.to)) runs v log
     go (body.Expect tick) = expect_on_log net f.head.publisher f.head.to now tick v log
 
@@ -215,51 +218,100 @@ forward_none net p c w = tabulate_none (λ t. if is_A (wanted_at w t) then Q els
     go true = refl
     go false = refl
 
-forward_frames_none : (net : Net) (p b : ℕ) (cs : List ℕ) (ws : List Wanted) → forward_frames [] net p b [] cs ws ≡ []
+forward_frames_none : (js : Joins) (net : Net) (p b : ℕ) (cs : List ℕ) (ws : List Wanted) → forward_frames js net p b [] cs ws ≡ []
 unfolding cut_frames
-forward_frames_none net p b [] ws = refl
-forward_frames_none net p b (c ∷ cs) [] = refl
-forward_frames_none net p b (c ∷ cs) (w ∷ ws) = rw (forward_none net p c w) (forward_frames_none net p b cs ws)
+forward_frames_none js net p b [] ws = refl
+forward_frames_none js net p b (c ∷ cs) [] = refl
+forward_frames_none js net p b (c ∷ cs) (w ∷ ws) = rw (forward_none net p c w) (forward_frames_none js net p b cs ws)
 
 -- a broker that learns nothing sends nothing
 pub learn_none : (net : Net) (p b : ℕ) (v : View) (log : Log) → (learn net p b [] v log).frames ≡ []
 unfolding learn
-learn_none net p b v log = rw (new_ticks_none v.know) (forward_frames_none net p b (net.children p b) v.wants)
+learn_none net p b v log = rw (new_ticks_none v.know) (forward_frames_none v.joins net p b (net.children p b) v.wants)
 
 -- What a frame that fits is answered
 
--- one that clashes
-pub answers_clash : {js : Joins} (net : Net) (now t : ℕ) (v : View) (f : Frame) (runs : Known) (k x : K) → f.body ≡ body.Knowledge runs js → AreRuns Q v.know → AreRuns Q runs →
-    IsLeastClash (known_at v.know) (known_at runs) t k x → receipt_of_fit net now v f ≡ clash t k x
-unfolding receipt_of_fit
-answers_clash net now t v f runs k x e a b l = rw (receipt_of_fit, e, least_is v.know runs t k x a b l, l.kept_is, l.came_is) (ap (λ y. clash t (known_at v.know t) (said y)) e)
-  where
-    said : Body → K
-    said y = elim y [ body.Knowledge rs js ↦ known_at rs t | _ ↦ Q ]
+-- by whether its joins split, and by whether it clashes
+abbrev split_if : Net → ℕ → View → Frame → Option Split → Receipt
+split_if net now v f o = elim o [ Some x ↦ split x | None ↦ receipt_of_joined net now v f ]
 
--- knowledge that does not clash
-pub answers_knowledge : {js : Joins} (net : Net) (now p b : ℕ) (v : View) (f : Frame) (runs : Known) → f.head.publisher ≡ p → f.head.to ≡ b → f.body ≡ body.Knowledge runs js → AreRuns Q v.know → AreRuns Q runs →
-    ((t : ℕ) → clash_K (known_at v.know t) (known_at runs t) ≡ false) → receipt_of_fit net now v f ≡ taken (learn net p b runs v empty_log)
+abbrev clash_of : Known → Body → Option ℕ
+clash_of know y = elim y [ body.Knowledge runs js ↦ first_of (clash_runs know runs) | _ ↦ None ]
+
+abbrev said_by : Body → ℕ → K
+said_by y t = elim y [ body.Knowledge runs js ↦ known_at runs t | _ ↦ Q ]
+
+abbrev joins_by : Body → Joins
+joins_by y = elim y [ body.Knowledge runs js ↦ js | _ ↦ [] ]
+
+abbrev taking_by : View → Body → View
+taking_by v y = elim y [ body.Knowledge runs js ↦ with_joins v (longer v.joins js) | _ ↦ v ]
+
+abbrev joined_if : Net → ℕ → View → Frame → Body → Option ℕ → Receipt
+joined_if net now v f y o = elim o [ Some t ↦ clash t (known_at v.know t) (said_by y t) | None ↦ taken (receive (seen net (taking_by v y)) now f v empty_log) ]
+
+abbrev piece_if : Net → ℕ → ℕ → View → Known → Joins → Option ℕ → Receipt
+piece_if net p b v runs js o =
+    let u : View = with_joins v (longer v.joins js) in elim o [ Some t ↦ clash t (known_at v.know t) (known_at runs t) | None ↦ taken (learn (seen net u) p b runs u empty_log) ]
+
+-- by what the frame brings
+splits_by : (net : Net) (now : ℕ) (v : View) (f : Frame) (y : Body) (o : Option Split) → f.body ≡ y → first_split 0 v.joins (joins_by y) ≡ o → receipt_of_fit net now v f ≡ split_if net now v f o
 unfolding receipt_of_fit
-answers_knowledge net now p b v f runs ep eb e x y none =
-    rw (receipt_of_fit, e, no_clash_is v.know runs x y none)
-    (ap taken (receive_knowledge net now f v empty_log runs e (clashes_none v.know runs (no_clash_is v.know runs x y none)) ∙ ap₂ (λ (i j : ℕ). learn net i j runs v empty_log) ep eb))
+splits_by net now v f y o e s = ap (split_if net now v f) (ap (λ (z : Body). first_split 0 v.joins (joins_by z)) e ∙ s)
+
+joined_by : (net : Net) (now : ℕ) (v : View) (f : Frame) (y : Body) → f.body ≡ y → receipt_of_joined net now v f ≡ joined_if net now v f y (clash_of v.know y)
+joined_by net now v f y e = ap (λ (z : Body). joined_if net now v f z (clash_of v.know z)) e
+
+-- what is known of it, where it clashes
+pub piece_clashes : (net : Net) (p b t : ℕ) (v : View) (runs : Known) (js : Joins) (k x : K) → AreRuns Q v.know → AreRuns Q runs →
+    IsLeastClash (known_at v.know) (known_at runs) t k x → receipt_of_piece net p b v runs js ≡ clash t k x
+piece_clashes net p b t v runs js k x canon came l = ap (piece_if net p b v runs js) (least_is v.know runs t k x canon came l) ∙ rw (l.kept_is, l.came_is) refl
+
+-- and where it does not: it is learned, with the longer list
+pub piece_taken : (net : Net) (p b : ℕ) (v : View) (runs : Known) (js : Joins) → AreRuns Q v.know → AreRuns Q runs → ((t : ℕ) → clash_K (known_at v.know t) (known_at runs t) ≡ false) →
+    receipt_of_piece net p b v runs js ≡ (let u : View = with_joins v (longer v.joins js) in taken (learn (seen net u) p b runs u empty_log))
+piece_taken net p b v runs js canon came none = ap (piece_if net p b v runs js) (no_clash_is v.know runs canon came none)
+
+-- a frame whose joins split
+pub answers_split : (net : Net) (now : ℕ) (v : View) (f : Frame) (runs : Known) (js : Joins) (x : Split) → f.body ≡ body.Knowledge runs js → first_split 0 v.joins js ≡ Some x → receipt_of_fit net now v f ≡ split x
+answers_split net now v f runs js x e s = splits_by net now v f (body.Knowledge runs js) (Some x) e s
+
+-- knowledge whose joins do not split
+not_dropped : (v : View) (runs : Known) (js : Joins) → first_split 0 v.joins js ≡ None → first_of (clash_runs v.know runs) ≡ None → drops v runs js ≡ false
+unfolding drops
+not_dropped v runs js s c = ap₂ (λ (o : Option Split) (q : Bool). is_some o || q) s (clashes_none v.know runs c)
+
+pub answers_piece : (net : Net) (now p b : ℕ) (v : View) (f : Frame) (runs : Known) (js : Joins) → f.head.publisher ≡ p → f.head.to ≡ b → f.body ≡ body.Knowledge runs js → first_split 0 v.joins js ≡ None →
+    receipt_of_fit net now v f ≡ receipt_of_piece net p b v runs js
+answers_piece net now p b v f runs js ep eb e s =
+    splits_by net now v f (body.Knowledge runs js) None e s ∙ joined_by net now v f (body.Knowledge runs js) e ∙ go (first_of (clash_runs v.know runs)) refl
+  where
+    u : View
+    u = with_joins v (longer v.joins js)
+
+    go : (o : Option ℕ) → first_of (clash_runs v.know runs) ≡ o → joined_if net now v f (body.Knowledge runs js) o ≡ piece_if net p b v runs js o
+    go (Some t) c = refl
+    go None c = ap taken (receive_knowledge (seen net u) now f v empty_log runs js e (not_dropped v runs js s c) ∙ ap₂ (λ (i j : ℕ). learn (seen net u) i j runs u empty_log) ep eb)
+
+-- a frame that brings no joins does not split
+none_split : (js : Joins) → first_split 0 js [] ≡ None
+none_split [] = refl
+none_split (j ∷ js) = refl
 
 -- curiosity of the child in its place
 pub answers_curiosity : (net : Net) (now p b c i : ℕ) (v : View) (f : Frame) (runs : Wanted) → f.head.publisher ≡ p → f.head.to ≡ b → f.body ≡ body.Curiosity runs → i ≡ place_of f.head.from (net.children p b) → c ≡ f.head.from →
-    receipt_of_fit net now v f ≡ taken (curiosity net p b now c i runs v empty_log)
-unfolding receipt_of_fit
+    receipt_of_fit net now v f ≡ taken (curiosity (seen net v) p b now c i runs v empty_log)
 answers_curiosity net now p b c i v f runs ep eb e at ec =
-    rw (receipt_of_fit, e)
-    (ap taken (receive_curiosity net now i f v empty_log runs e (at ∙ ap₂ (λ (x y : ℕ). place_of f.head.from (net.children x y)) (sym ep) (sym eb))
-    ∙ ap₂ (λ (x y : ℕ). curiosity net x y now f.head.from i runs v empty_log) ep eb ∙ ap (λ (x : ℕ). curiosity net p b now x i runs v empty_log) (sym ec)))
+    splits_by net now v f (body.Curiosity runs) None e (none_split v.joins) ∙ joined_by net now v f (body.Curiosity runs) e
+    ∙ ap taken (receive_curiosity (seen net v) now i f v empty_log runs e (at ∙ ap₂ (λ (x y : ℕ). place_of f.head.from (net.children x y)) (sym ep) (sym eb))
+    ∙ ap₂ (λ (x y : ℕ). curiosity (seen net v) x y now f.head.from i runs v empty_log) ep eb ∙ ap (λ (x : ℕ). curiosity (seen net v) p b now x i runs v empty_log) (sym ec))
 
 -- a tick to expect
 pub answers_expect : (net : Net) (now p b : ℕ) (v : View) (f : Frame) (tick : ℕ) → f.head.publisher ≡ p → f.head.to ≡ b → f.body ≡ body.Expect tick →
-    receipt_of_fit net now v f ≡ taken (expect net p b now tick v empty_log)
-unfolding receipt_of_fit
+    receipt_of_fit net now v f ≡ taken (expect (seen net v) p b now tick v empty_log)
 answers_expect net now p b v f tick ep eb e =
-    rw (receipt_of_fit, e) (ap taken (receive_expect net now f v empty_log tick e ∙ ap₂ (λ (x y : ℕ). expect net x y now tick v empty_log) ep eb))
+    splits_by net now v f (body.Expect tick) None e (none_split v.joins) ∙ joined_by net now v f (body.Expect tick) e
+    ∙ ap taken (receive_expect (seen net v) now f v empty_log tick e ∙ ap₂ (λ (x y : ℕ). expect (seen net v) x y now tick v empty_log) ep eb)
 
 -- who is told what to expect is not the host
 pub expects_below : (t : TopologyView) (p b tick : ℕ) (up : Option ℕ) (children : List ℕ) (f : Frame) → IsTopology t → p < length t.publishers → up ≡ up_at t p b → f.body ≡ body.Expect tick → comes_over up children f ≡ true →
@@ -272,3 +324,48 @@ expects_below t p b tick up children f is i e eb h = go up refl
     go : (o : Option ℕ) → up ≡ o → is_host (net_of t) p b ≡ false
     go None n = absurd (true≢false (sym (rw n at from_up)))
     go (Some u) n = not_host t p b u is i (sym e ∙ n)
+
+-- At the host the joins that are held stay: only what a child asks comes there
+
+fits_all : (a b c d : Bool) → (((a && b) && c) && d) ≡ true → (b ≡ true) × (c ≡ true)
+fits_all a b c d h =
+    let one = and_parts ((a && b) && c) d h in
+    let two = and_parts (a && b) c one.0 in
+    ((and_parts a b two.0).1, two.1)
+
+pub receipt_joins : (t : TopologyView) (now b : ℕ) (v : View) (f : Frame) → IsTopology t → fits_broker (net_of t) b f ≡ true → is_host (net_of t) f.head.publisher b ≡ true → (view_after (receipt_of_fit (net_of t) now v f) v).joins ≡ v.joins
+receipt_joins t now b v f is fits host = go f.body refl
+  where
+    net : Net
+    net = net_of t
+
+    p : ℕ
+    p = f.head.publisher
+
+    upstream : Bool
+    upstream = elim (up_at t p b) [ Some u ↦ nat_eq u f.head.from | None ↦ false ]
+
+    over : Body → Bool
+    over y = elim y [ body.Curiosity runs ↦ list_any (λ x. nat_eq x f.head.from) (children_of t p b) | _ ↦ upstream ]
+
+    parts : (nat_lt p (length t.publishers) ≡ true) × (over f.body ≡ true)
+    parts = fits_all (nat_eq f.head.to b) (nat_lt p (length t.publishers)) (over f.body) (joins_fit net f) fits
+
+    none_up : upstream ≡ true → ⊥
+    none_up h = at (up_at t p b) refl h
+      where
+        at : (o : Option ℕ) → up_at t p b ≡ o → elim o [ Some u ↦ nat_eq u f.head.from | None ↦ false ] ≡ true → ⊥
+        at None e k = true≢false (sym k)
+        at (Some u) e k = true≢false (sym host ∙ not_host t p b u is (ltb-true p (length t.publishers) parts.0) e)
+
+    go : (y : Body) → f.body ≡ y → (view_after (receipt_of_fit net now v f) v).joins ≡ v.joins
+    go (body.Knowledge runs js) e = absurd (none_up (ap over (sym e) ∙ parts.1))
+    go (body.Expect tick) e = absurd (none_up (ap over (sym e) ∙ parts.1))
+    go (body.Curiosity runs) e =
+        ap (λ r. (view_after r v).joins) (answers_curiosity net now p f.head.to f.head.from (place_of f.head.from (net.children p f.head.to)) v f runs refl refl e refl refl)
+        ∙ curiosity_joins (seen net v) p f.head.to now f.head.from (place_of f.head.from (net.children p f.head.to)) runs v empty_log
+
+-- so they are held after an answer
+pub same_after : {T E : Type 0} (result : Result T E) (v v' w : View) → OnOk result (v' ≡ w) → OnErr result (v' ≡ v) → w.joins ≡ v.joins → v'.joins ≡ v.joins
+same_after (Ok x) v v' w ok err same = ap (λ (u : View). u.joins) ok ∙ same
+same_after (Err e) v v' w ok err same = ap (λ (u : View). u.joins) err

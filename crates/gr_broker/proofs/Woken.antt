@@ -14,7 +14,7 @@ use Rattle.gr_pubend.specs.Answers.{quiet_logs}
 use Rattle.gr_topo.specs.Topology.{TopologyView}
 use Rattle.gr_model.specs.Net.{Net, is_host}
 use Rattle.gr_model.specs.NetOf.{net_of}
-use Rattle.gr_model.specs.Broker.{View, Outcome, marking, wake, wake_host, wake_below, asking}
+use Rattle.gr_model.specs.Broker.{View, Outcome, marking, wake, wake_host, wake_below, asking, seen}
 use Rattle.gr_model.specs.World.{blank_view}
 use Rattle.gr_broker_relay.specs.declared.outcome.Outcome.{Outcome as Answer}
 use Rattle.gr_broker_relay.specs.declared.held.Held.{Held}
@@ -24,7 +24,7 @@ use Rattle.gr_broker_relay.specs.Kept.{IsKept}
 use Rattle.gr_broker_relay.specs.Told.{Tells}
 use Rattle.gr_broker.specs.declared.outcome.BrokerFault.{BrokerFault}
 use Rattle.gr_broker.specs.declared.outcome.BrokerFault.TheVariants as refused
-use Rattle.gr_broker.specs.Seen.{broker_at, BrokerView, log_in, log_said, with_logged, with_failed, broken_at, is_broken}
+use Rattle.gr_broker.specs.Seen.{broker_at, BrokerView, view_in, log_in, log_said, with_logged, with_failed, broken_at, is_broken, HasJoins}
 use Rattle.gr_broker.specs.Of.{IsBrokerOf, LogsStand}
 use Rattle.gr_broker.specs.Told.{log_answer}
 use Rattle.gr_broker.specs.Hosted.{cut_logs, logged, AppendsTwice, AppendsTwiceAt, WakeLeaves, after_mark, after_wake}
@@ -32,6 +32,8 @@ use Rattle.gr_broker.specs.Host.{HostView, host_with}
 use Rattle.gr_broker.specs.Parts.{PartView, part_with, part_of, part_in, with_part, part_wake, part_mark_logs, part_cut_logs, part_marked, part_woken, part_failed}
 use Rattle.gr_broker.proofs.Reading.{on_ok, each_set, part_is, seen_set}
 use Rattle.gr_broker.proofs.Twice.{second_log}
+use Rattle.gr_broker.proofs.Hosted.{marking_log_is, cutting_log_is}
+use Rattle.gr_broker.proofs.Joined.{Beside, marking_joins, cutting_joins}
 
 -- Which of the two wakes it is
 
@@ -73,7 +75,7 @@ some_is e = cc e
 
 module _ (t : TopologyView) (p b now : ℕ) (v v' : View) (l l' : LogView) where
   abbrev marks : Outcome
-  marks = marking (net_of t) p b now v (log_of l.records)
+  marks = marking (seen (net_of t) v) p b now v (log_of l.records)
 
   abbrev to_mark : Option Record
   to_mark = quiet_logs l.records now t.settings.quiet
@@ -87,7 +89,7 @@ module _ (t : TopologyView) (p b now : ℕ) (v v' : View) (l l' : LogView) where
 
   woken_view : is_host (net_of t) p b ≡ true → marks.view ≡ (part_wake t p b now (part_with v (Some l))).view
   unfolding wake_host
-  woken_view host = sym (ap (λ (o : Outcome). o.view) (wake_here_is (net_of t) p b now v (log_of l.records) host))
+  woken_view host = sym (ap (λ (o : Outcome). o.view) (wake_here_is (seen (net_of t) v) p b now v (log_of l.records) host))
 
   -- what is kept then
   pub here_leaves : {T : Type 0} (x : PartView) (r : Result T LogFault) → x ≡ part_with v (Some l) → is_host (net_of t) p b ≡ true → LeftHere r →
@@ -104,8 +106,8 @@ module _ (t : TopologyView) (p b now : ℕ) (v v' : View) (l l' : LogView) where
   here_log x r e host quiet k =
       on_ok r (λ (h : host_with v' l' ≡ host_with marks.view (logged (logged l to_mark) to_cut)).
       ap (λ (y : HostView). log_of y.log.records) h
-      ∙ second_log (net_of t) p b now v marks.view l (logged l to_mark) refl refl quiet
-      ∙ sym (ap (λ (o : Outcome). o.log) (wake_here_is (net_of t) p b now v (log_of l.records) host))
+      ∙ second_log (seen (net_of t) v) p b now v marks.view l (logged l to_mark) refl refl quiet
+      ∙ sym (ap (λ (o : Outcome). o.log) (wake_here_is (seen (net_of t) v) p b now v (log_of l.records) host))
       ∙ ap (λ (y : PartView). let o : Outcome = part_wake t p b now y in o.log) (sym e))
       k.ok
 
@@ -125,12 +127,37 @@ module _ (t : TopologyView) (p b now : ℕ) (v v' : View) (l l' : LogView) where
   here_late (Err fault.Reopen) k = ap (λ (y : HostView). y.log.late) (k.closed refl)
   here_late (Err (fault.Damaged at)) k = absurd (k.never_damaged at refl)
 
+  -- and the joins that are held are still its own
+  pub here_joined : {T : Type 0} (r : Result T LogFault) → LeftHere r → HasJoins v l → HasJoins v' l'
+  here_joined r k h = left r k
+    where
+      net : Net
+      net = seen (net_of t) v
+
+      -- as after the mark, and as after the cut
+      at_mark : HasJoins marks.view (logged l to_mark)
+      at_mark = marking_joins net p b now v (log_of l.records) h ∙ ap (λ (x : Log). x.joins) (sym (marking_log_is net p b now v l.records))
+
+      at_cut : HasJoins marks.view (logged (logged l to_mark) to_cut)
+      at_cut = marking_joins net p b now v (log_of l.records) h ∙ sym (cutting_joins net p b marks.view marks.log)
+          ∙ ap (λ (x : Log). x.joins) (sym (cutting_log_is net p b marks.view (logged l to_mark).records marks.log (marking_log_is net p b now v l.records)))
+
+      is : (u : View) (m : LogView) → host_with v' l' ≡ host_with u m → HasJoins u m → HasJoins v' l'
+      is u m e k = subst (λ (y : HostView). HasJoins y.view y.log) (sym e) k
+
+      left : {T : Type 0} (r : Result T LogFault) → LeftHere r → HasJoins v' l'
+      left (Ok told) s = is marks.view (logged (logged l to_mark) to_cut) s.ok at_cut
+      left (Err fault.Memory) s = ⊎_elim (λ e. is v l e h) (λ e. is marks.view (logged l to_mark) e at_mark) (s.memory refl)
+      left (Err fault.Disk) s = ⊎_elim (λ e. is v (failed l) e h) (λ e. is marks.view (failed (logged l to_mark)) e at_mark) (s.failed refl)
+      left (Err fault.Reopen) s = is v l (s.closed refl) h
+      left (Err (fault.Damaged at)) s = absurd (s.never_damaged at refl)
+
   -- what is told
   pub here_told : (x : PartView) (r : Result Answer LogFault) → x ≡ part_with v (Some l) → is_host (net_of t) p b ≡ true →
-      IfOk r (λ told. Tells (wake_host (net_of t) p b now v (log_of l.records)) told) → IfOk r (λ told. Tells (part_wake t p b now x) told)
+      IfOk r (λ told. Tells (wake_host (seen (net_of t) v) p b now v (log_of l.records)) told) → IfOk r (λ told. Tells (part_wake t p b now x) told)
   here_told x r e host k =
       subst (λ (y : PartView). IfOk r (λ told. Tells (part_wake t p b now y) told)) (sym e)
-      (subst (λ (o : Outcome). IfOk r (λ told. Tells o told)) (sym (wake_here_is (net_of t) p b now v (log_of l.records) host)) k)
+      (subst (λ (o : Outcome). IfOk r (λ told. Tells o told)) (sym (wake_here_is (seen (net_of t) v) p b now v (log_of l.records) host)) k)
 
   -- its lane
   pub here_twice : {T : Type 0} (x : PartView) (r : Result T LogFault) (before after : ℕ → Lane) (m : LogView) (n : ℕ) → x ≡ part_with v (Some l) → x.log ≡ Some m → l.lane ≡ n →
@@ -159,15 +186,15 @@ no_some {o} {l} none some = let e : ◌≡◌ {A = Option LogView} None (Some l)
 
 module _ (t : TopologyView) (p b now : ℕ) (x : PartView) (host : is_host (net_of t) p b ≡ false) where
   -- what is told
-  pub below_told : (told : Answer) → ((log : Log) → Tells (wake_below (net_of t) p b now x.view log) told) → Tells (part_wake t p b now x) told
-  below_told told k = subst (λ (o : Outcome). Tells o told) (sym (wake_below_is (net_of t) p b now x.view (log_said x.log) host)) (k (log_said x.log))
+  pub below_told : (told : Answer) → ((log : Log) → Tells (wake_below (seen (net_of t) x.view) p b now x.view log) told) → Tells (part_wake t p b now x) told
+  below_told told k = subst (λ (o : Outcome). Tells o told) (sym (wake_below_is (seen (net_of t) x.view) p b now x.view (log_said x.log) host)) (k (log_said x.log))
 
   -- what is kept then
   pub below_ok : {T : Type 0} (x' : PartView) (told : T) → x.log ≡ None → x'.log ≡ x.log →
-      ((log : Log) → let o : Outcome = wake_below (net_of t) p b now x.view log in x'.view ≡ o.view) →
+      ((log : Log) → let o : Outcome = wake_below (seen (net_of t) x.view) p b now x.view log in x'.view ≡ o.view) →
       WakeLeaves x (part_marked t p b now x) (part_woken t p b now x) (part_failed x) (part_failed (part_marked t p b now x)) x' (Ok told)
   below_ok x' told none same view = record {
-    ok = ap₂ part_with (view (log_said x.log) ∙ sym (ap (λ (o : Outcome). o.view) (wake_below_is (net_of t) p b now x.view (log_said x.log) host)))
+    ok = ap₂ part_with (view (log_said x.log) ∙ sym (ap (λ (o : Outcome). o.view) (wake_below_is (seen (net_of t) x.view) p b now x.view (log_said x.log) host)))
         (same ∙ none ∙ sym (ap (λ o. with_logged (with_logged o (part_mark_logs t now x)) (part_cut_logs t p b now x)) none));
     memory = λ h. absurd (cc h);
     failed = λ h. absurd (cc h);
@@ -189,7 +216,7 @@ module _ (t : TopologyView) (p b now : ℕ) (x : PartView) (host : is_host (net_
   -- no log is looked at
   pub below_log : (o : Option LogView) → o ≡ x.log → log_said o ≡ (part_wake t p b now x).log
   unfolding wake_below asking
-  below_log o e = ap log_said e ∙ sym (ap (λ (q : Outcome). q.log) (wake_below_is (net_of t) p b now x.view (log_said x.log) host))
+  below_log o e = ap log_said e ∙ sym (ap (λ (q : Outcome). q.log) (wake_below_is (seen (net_of t) x.view) p b now x.view (log_said x.log) host))
 
   -- and none is appended to
   pub below_reopen : {T : Type 0} (r : Result T LogFault) {A : Type 0} → x.log ≡ None → (IsErrOf r fault.Reopen → ⊥) → IsErrOf r fault.Reopen ↔ ((is_broken x.log ≡ true) × A)
@@ -224,8 +251,8 @@ module _ (b : BrokerView) (p : ℕ) (within : p < length b.logs) where
 
   -- it is still a broker of its topology
   pub broker_fits : (t : TopologyView) (x : PartView) → IsBrokerOf t b → p < length t.publishers → IsKept (net_of t) p b.number x.view → is_some x.log ≡ is_some (log_in b p) →
-      ((l : LogView) → x.log ≡ Some l → l.lane ≡ 2 * p) → ((l : LogView) → x.log ≡ Some l → l.late ≡ t.late) → IsBrokerOf t (with_part b p x)
-  broker_fits t x f lt kept hosted lanes late = record {
+      ((l : LogView) → x.log ≡ Some l → l.lane ≡ 2 * p) → ((l : LogView) → x.log ≡ Some l → l.late ≡ t.late) → Beside x.view x.log → IsBrokerOf t (with_part b p x)
+  broker_fits t x f lt kept hosted lanes late joined = record {
     number = f.number;
     here = f.here;
     branches = f.branches;
@@ -235,8 +262,19 @@ module _ (b : BrokerView) (p : ℕ) (within : p < length b.logs) where
     hosted = each_set (λ q (o : Option LogView). is_some o ≡ is_host (net_of t) q b.number) b.logs p x.log None (length t.publishers) within f.hosted (hosted ∙ f.hosted p lt);
     lanes = λ q l e. at q l e (cases_eq q p);
     late = λ q l e. of_topology q l e (cases_eq q p);
+    joined = λ q l e. beside q l e (cases_eq q p);
   }
     where
+      seen_at : view_in (with_part b p x) p ≡ x.view
+      seen_at = get_or-set_same b.views p x.view blank_view (omega (arith, lt, f.views))
+
+      beside : (q : ℕ) (l : LogView) → log_in (with_part b p x) q ≡ Some l → (q ≡ p) ⊎ (q ≢ p) → HasJoins (view_in (with_part b p x) q) l
+      beside q l e (inl same) =
+          subst (λ (n : ℕ). HasJoins (view_in (with_part b p x) n) l) (sym same)
+          (subst (λ (v : View). HasJoins v l) (sym seen_at) (joined l (sym (log_put x) ∙ ap (log_in (with_part b p x)) (sym same) ∙ e)))
+      beside q l e (inr other) =
+          subst (λ (v : View). HasJoins v l) (sym (get_or-set_other b.views p q x.view blank_view other)) (f.joined q l (sym (get_or-set_other b.logs p q x.log None other) ∙ e))
+
       at : (q : ℕ) (l : LogView) → log_in (with_part b p x) q ≡ Some l → (q ≡ p) ⊎ (q ≢ p) → l.lane ≡ 2 * q
       at q l e (inl same) = lanes l (sym (log_put x) ∙ ap (log_in (with_part b p x)) (sym same) ∙ e) ∙ ap (λ (n : ℕ). 2 * n) (sym same)
       at q l e (inr other) = f.lanes q l (sym (get_or-set_other b.logs p q x.log None other) ∙ e)

@@ -1,4 +1,4 @@
--- A publisher's calls at its host: what is logged, told and kept
+-- A publisher's calls at its host: what is logged, told and kept. Each is at the net that what is held of it shows
 use Rattle.std.specs.Prelude.{◌≡◌, ◌≢◌, ◌⊎◌, ℕ, false, nat_lt, if◌then◌else◌, List, Option, Some, None, Result}
 use Rattle.std.specs.Prelude.{Err, IsErrOf, OnOk}
 use Rattle.gr_event.specs.declared.event.Event.{Event}
@@ -9,11 +9,14 @@ use Rattle.gr_publog.specs.declared.record.LogFault.{LogFault}
 use Rattle.gr_publog.specs.declared.record.LogFault.TheVariants as fault
 use Rattle.gr_publog.specs.Crash.{LogView}
 use Rattle.gr_publog.specs.Calls.{Appends, Reads, records_with}
-use Rattle.gr_pubend.specs.Answers.{published, quieted, event_of, mark_of}
+use Rattle.gr_know.specs.Values.{Known}
+use Rattle.gr_pubend.specs.declared.answers.Joined.TheVariants as joins
+use Rattle.gr_pubend.specs.Answers.{published, quieted, joined_at, event_of, mark_of, join_of}
 use Rattle.gr_topo.specs.Topology.{TopologyView}
 use Rattle.gr_model.specs.Net.{Net, keeps_horizon}
 use Rattle.gr_model.specs.NetOf.{net_of}
-use Rattle.gr_model.specs.Broker.{View, Log, Outcome as MachineOutcome, publish, marking, wake, consolidated, done_upto}
+use Rattle.gr_model.specs.Broker.{View, Log, Outcome as MachineOutcome, publish, joining, marking, wake, consolidated}
+use Rattle.gr_model.specs.Broker.{done_upto, seen, with_join, with_joins, joining_by, view_joined}
 use Rattle.gr_broker.specs.Lanes.{log_lane}
 use Rattle.gr_broker.specs.Seen.{BrokerView, view_in, log_in, machine_log, with_view, with_log, with_logged, logged_at}
 
@@ -21,7 +24,8 @@ use Rattle.gr_broker.specs.Seen.{BrokerView, view_in, log_in, machine_log, with_
 
 -- the machine's call
 abbrev pub publish_at : TopologyView → BrokerView → ℕ → ℕ → ℕ → Event → MachineOutcome
-publish_at t b p now number e = publish (net_of t) p b.number now number e (view_in b p) (machine_log b p)
+publish_at t b p now number e =
+    let v : View = view_in b p in publish (seen (net_of t) v) p b.number now number e v (machine_log b p)
 
 -- the record that it logs, or none
 abbrev pub publish_logs_at : BrokerView → ℕ → ℕ → ℕ → Event → Option Record
@@ -32,13 +36,38 @@ abbrev pub after_publish : TopologyView → BrokerView → ℕ → ℕ → ℕ �
 after_publish t b p now number e =
     let o : MachineOutcome = publish_at t b p now number e in logged_at b p (publish_logs_at b p now number e) o.view
 
+-- The join of a late subscriber
+
+-- the machine's call: its net is that which the held list shows once the join is logged
+abbrev pub join_with : Net → ℕ → ℕ → ℕ → ℕ → View → Log → MachineOutcome
+join_with net p b now s v log = joining (seen net (view_joined log s now v)) p b now s v log
+
+-- the same by an answer that logs it
+abbrev pub join_by : Net → ℕ → ℕ → ℕ → View → Log → ℕ → Known → MachineOutcome
+join_by net p b s v log tick fresh =
+    let next : Log = with_join log tick s in
+    joining_by (seen net (with_joins v next.joins)) p b s v log (joins.Logged tick fresh)
+
+-- the same at a broker
+abbrev pub join_at : TopologyView → BrokerView → ℕ → ℕ → ℕ → MachineOutcome
+join_at t b p s now = join_with (net_of t) p b.number now s (view_in b p) (machine_log b p)
+
+-- the record that it logs, or none
+abbrev pub join_logs_at : BrokerView → ℕ → ℕ → ℕ → Option Record
+join_logs_at b p s now = join_of (joined_at (machine_log b p) s now) s
+
+-- the broker after it
+abbrev pub after_join : TopologyView → BrokerView → ℕ → ℕ → ℕ → BrokerView
+after_join t b p s now =
+    let o : MachineOutcome = join_at t b p s now in logged_at b p (join_logs_at b p s now) o.view
+
 -- A wake: a mark, and then a cut
 
 abbrev pub wake_at : TopologyView → BrokerView → ℕ → ℕ → MachineOutcome
-wake_at t b p now = wake (net_of t) p b.number now (view_in b p) (machine_log b p)
+wake_at t b p now = let v : View = view_in b p in wake (seen (net_of t) v) p b.number now v (machine_log b p)
 
 abbrev pub mark_at : TopologyView → BrokerView → ℕ → ℕ → MachineOutcome
-mark_at t b p now = marking (net_of t) p b.number now (view_in b p) (machine_log b p)
+mark_at t b p now = let v : View = view_in b p in marking (seen (net_of t) v) p b.number now v (machine_log b p)
 
 -- the record of the mark, or none; that of the cut at what is kept, or none
 abbrev pub mark_logs_at : TopologyView → BrokerView → ℕ → ℕ → Option Record

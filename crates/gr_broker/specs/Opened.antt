@@ -8,19 +8,19 @@ use Rattle.gr_publog.specs.Crash.{LogView}
 use Rattle.gr_publog.specs.Calls.{Opens}
 use Rattle.gr_model.specs.Net.{Net, numbers, is_host, not_empty}
 use Rattle.gr_model.specs.NetOf.{net_of}
-use Rattle.gr_model.specs.Broker.{Log, View, Outcome as MachineOutcome, learn, started}
+use Rattle.gr_model.specs.Broker.{Log, View, Outcome as MachineOutcome, learn, seen, started}
 use Rattle.gr_model.specs.Opening.{reopened_line}
 use Rattle.gr_broker_relay.specs.declared.outcome.Outcome.{Outcome}
 use Rattle.gr_broker.specs.Lanes.{log_lane}
 use Rattle.gr_broker.specs.Seen.{BrokerView, view_in, log_in, machine_log}
 use Rattle.gr_broker.specs.Of.{IsBrokerOf}
 
--- A publisher's start at a broker. A host with a subscriber learns nothing new, by which its horizon moves to what is
--- settled
+-- A publisher's start at a broker. A host with a subscriber learns nothing new, holding the joins of its log, by which
+-- its horizon moves to what is settled
 unfoldable pub opened_at : Net → ℕ → ℕ → Log → MachineOutcome
 opened_at net p b log =
     let v : View = started net p b log in
-    let o : MachineOutcome = learn net p b [] v log in
+    let o : MachineOutcome = learn (seen net v) p b [] v log in
     elim (is_host net p b && not_empty (net.subscribers_at b)) [
       | true ↦ record { view = o.view; log = log; lines = reopened_line log p ++ o.lines; frames = o.frames }
       | false ↦ record { view = v; log = log; lines = if is_host net p b then reopened_line log p else []; frames = [] }

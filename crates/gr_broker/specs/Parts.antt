@@ -5,7 +5,7 @@ use Rattle.gr_publog.specs.Crash.{LogView}
 use Rattle.gr_pubend.specs.Answers.{quieted, mark_of}
 use Rattle.gr_topo.specs.Topology.{TopologyView}
 use Rattle.gr_model.specs.NetOf.{net_of}
-use Rattle.gr_model.specs.Broker.{View, Outcome as MachineOutcome, marking, wake}
+use Rattle.gr_model.specs.Broker.{View, Outcome as MachineOutcome, marking, wake, seen}
 use Rattle.gr_broker_relay.specs.declared.held.Held.{Held}
 use Rattle.gr_broker_relay.specs.Held.{held_view}
 use Rattle.gr_broker.specs.Seen.{BrokerView, view_in, log_in, log_said, with_view, with_log, with_logged, with_failed}
@@ -31,10 +31,10 @@ with_part b p x = with_view (with_log b p x.log) p x.view
 
 -- the machine's wake, and its mark
 abbrev pub part_wake : TopologyView → ℕ → ℕ → ℕ → PartView → MachineOutcome
-part_wake t p b now x = wake (net_of t) p b now x.view (log_said x.log)
+part_wake t p b now x = wake (seen (net_of t) x.view) p b now x.view (log_said x.log)
 
 abbrev pub part_mark : TopologyView → ℕ → ℕ → ℕ → PartView → MachineOutcome
-part_mark t p b now x = marking (net_of t) p b now x.view (log_said x.log)
+part_mark t p b now x = marking (seen (net_of t) x.view) p b now x.view (log_said x.log)
 
 -- the record of the mark, or none; that of the cut, or none
 abbrev pub part_mark_logs : TopologyView → ℕ → PartView → Option Record

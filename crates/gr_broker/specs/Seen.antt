@@ -1,5 +1,5 @@
 -- What a contract sees of a broker
-use Rattle.std.specs.Prelude.{ℕ, ◌<◌, Bool, false, List, length, map, get_or, set, Option, Some, None, IsSome}
+use Rattle.std.specs.Prelude.{◌≡◌, ℕ, ◌<◌, Bool, false, List, length, map, get_or, set, Option, Some, None, IsSome}
 use Rattle.gr_edge.specs.Pass.{Wanting}
 use Rattle.gr_publog.specs.declared.record.Record.{Record}
 use Rattle.gr_publog.specs.Crash.{LogView, with_record, failed}
@@ -77,6 +77,10 @@ broken_at b p = with_log b p (with_failed (log_in b p))
 -- the broker once a record was logged, or none, and this is kept
 abbrev pub logged_at : BrokerView → ℕ → Option Record → View → BrokerView
 logged_at b p logged v = with_view (with_log b p (with_logged (log_in b p) logged)) p v
+
+-- the joins that are held are those of a log
+abbrev pub HasJoins : View → LogView → Type 0
+HasJoins v l = v.joins ≡ (log_of l.records).joins
 
 -- the publisher is at the broker
 abbrev pub IsHosted : BrokerView → ℕ → Type 0

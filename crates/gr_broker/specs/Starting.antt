@@ -1,6 +1,7 @@
 -- A broker's start, publisher by publisher: what is kept of those so far, and what was done to their lanes
 use Rattle.std.specs.Prelude.{◌≡◌, ◌≢◌, ℕ, ◌<◌, Bool, true, false, List, [], length, map, get_or, Option, Some}
 use Rattle.std.specs.Prelude.{None, Ok, is_some, flat_map}
+use Rattle.gr_event.specs.Joins.{Joins}
 use Rattle.gr_topo.specs.Topology.{TopologyView, children_of}
 use Rattle.gr_out.specs.Lane.{Lane}
 use Rattle.gr_publog.specs.declared.record.LogFault.{LogFault}
@@ -20,7 +21,7 @@ use Rattle.gr_broker_relay.specs.Kept.{IsKept}
 use Rattle.gr_broker.specs.Lanes.{log_lane}
 use Rattle.gr_broker.specs.declared.outcome.BrokerFault.{BrokerFault}
 use Rattle.gr_broker.specs.declared.outcome.BrokerFault.TheVariants as refused
-use Rattle.gr_broker.specs.Seen.{log_said}
+use Rattle.gr_broker.specs.Seen.{log_said, HasJoins}
 use Rattle.gr_broker.specs.Opened.{opened_at, LosesNothing}
 
 -- a fault of the log of a publisher
@@ -31,13 +32,13 @@ fault_of p fault.Reopen = refused.Reopen
 fault_of p (fault.Damaged at) = refused.Damaged p at
 
 -- what is kept of a publisher before anything was asked or handed over
-abbrev pub fresh_view : TopologyView → ℕ → ℕ → Known → View
-fresh_view t p b know = record {
+abbrev pub fresh_view : TopologyView → ℕ → ℕ → Known → Joins → View
+fresh_view t p b know js = record {
   know = know;
   wants = map (λ _. []) (children_of t p b);
   asks = [];
   horizon = 0;
-  joins = [];
+  joins = js;
 }
 
 -- what the start of a publisher tells, over its log
@@ -52,6 +53,7 @@ pub record IsStarted (t : TopologyView) (p b : ℕ) (v : View) (l : Option LogVi
   pub lane : (m : LogView) → l ≡ Some m → m.lane ≡ log_lane p
   pub whole : (m : LogView) → l ≡ Some m → m.broken ≡ false
   pub late : (m : LogView) → l ≡ Some m → m.late ≡ t.late
+  pub joined : (m : LogView) → l ≡ Some m → HasJoins v m
 
 -- the same of a site: whether its publisher is here, what is kept of it, and what its start tells
 abbrev pub is_here : Site → Bool

@@ -7,6 +7,7 @@ ghost use Rattle.gr_out.specs.declared.disk.Stop.TheVariants.{Unset};
 ghost use Rattle.gr_out.specs.Lane.{has_stopped};
 ghost use Rattle.gr_out.specs.Stops.{StaysFaultless};
 ghost use Rattle.gr_tick.specs.declared.TheConstants.{MAX_TICK};
+ghost use Rattle.gr_topo.specs.Topology.{late_of};
 ghost use Rattle.gr_publog.specs.Calls.{Tally, Leaves};
 ghost use Rattle.gr_model.specs.Net.{is_host};
 ghost use Rattle.gr_model.specs.NetOf.{net_of};
@@ -16,12 +17,14 @@ ghost use Rattle.gr_broker.specs.Lanes.{log_lane};
 ghost use Rattle.gr_broker.specs.Seen.{view_in, log_in, machine_log, is_broken, broken_at, IsHosted};
 ghost use Rattle.gr_broker.specs.Of.{IsBrokerOf, LogsStand};
 ghost use Rattle.gr_broker.specs.Told.{log_answer};
-ghost use Rattle.gr_broker.specs.Hosted.{publish_at, publish_logs_at, after_publish, wake_at, mark_logs_at};
-ghost use Rattle.gr_broker.specs.Hosted.{cut_logs_at, after_mark, after_wake, AppendsAt, AppendsTwiceAt, WakeLeaves};
+ghost use Rattle.gr_broker.specs.Hosted.{publish_at, publish_logs_at, after_publish, join_at, join_logs_at, after_join};
+ghost use Rattle.gr_broker.specs.Hosted.{wake_at, mark_logs_at, cut_logs_at, after_mark, after_wake, AppendsAt};
+ghost use Rattle.gr_broker.specs.Hosted.{AppendsTwiceAt, WakeLeaves};
 ghost use Rattle.gr_broker.specs.Receipt.{receipt, after_receipt, Answers};
 ghost use Rattle.gr_broker.specs.Keeps.{UsesLane};
 ghost use Rattle.gr_broker.specs.Opened.{StartsOver, OpensLanes, LosesNothing, IsDamagedAt};
 
+use crate::joining::join_in;
 use crate::outcome::{BrokerFault, Received, Spare};
 use crate::publishing::publish_in;
 use crate::receiving::receive;
@@ -230,9 +233,66 @@ impl Broker {
         Ok(told)
     }
 
-    /// Takes a datagram, at the moment `now`. First it is decoded, then it must fit, then it must not clash; one that
-    /// fails is dropped, and nothing has changed. One that is taken is the machine's receipt of its frame. At want of
-    /// memory the broker is as it was.
+    /// Joins a late subscriber to a publisher that is here, at the moment `now` in milliseconds: the machine's join. Of
+    /// the events past its tick the subscriber has those that its filter passes. Only once the join is synced in the log
+    /// it is held and told, and the silence up to it is sent, with the joins.
+    ///
+    /// A subscriber that has joined this publisher before is told so, and so is one for which no tick is left; then
+    /// nothing has changed. Faults are those of `publish`.
+    pub fn join<D: Disk>(
+        &mut self,
+        topo: &Topology,
+        disk: &mut D,
+        p: u16,
+        s: u16,
+        now: u64,
+    ) -> Result<Outcome, BrokerFault>
+        requires fits { IsBrokerOf topo.now self.old }
+        requires hosted { IsHosted self.old p }
+        requires late { late_of topo.now s ≡ true }
+        requires now { now ≤ MAX_TICK }
+        requires stands { D.tells → LogsStand (D.lane_of disk.old) self.old }
+        // What is told and sent, and what is kept: the machine's join
+        ensures told { IfOk result (λ told. Tells (join_at topo.now self.old p s now) told) }
+        ensures leaves { let after = after_join topo.now self.old p s now in
+            Leaves self.old after (broken_at self.old p) self.new (log_answer result) }
+        ensures log { OnOk result (let o : MachineOutcome = join_at topo.now self.old p s now in
+            machine_log self.new p ≡ o.log) }
+        ensures fits { IsBrokerOf topo.now self.new }
+        // The disk: one record, or none
+        ensures lane { D.tells → AppendsAt self.old p (join_logs_at self.old p s now)
+            (D.lane_of disk.old) (D.lane_of disk.new) (log_answer result) }
+        ensures reopen { IsErrOf result BrokerFault.Reopen
+            ↔ ((is_broken (log_in self.old p) ≡ true) × IsSome (join_logs_at self.old p s now)) }
+        ensures untouched { join_logs_at self.old p s now ≡ None → disk.new ≡ disk.old }
+        ensures uses { let answer = log_answer result in
+            UsesLane D.tells D.faultless D.lane_of D.faults D.stops (log_lane p) disk.old disk.new answer }
+        // so that the next call may be made
+        ensures stands { D.tells → LogsStand (D.lane_of disk.new) self.new }
+    {
+        let seat = Seat {
+            alloc: self.alloc,
+            topo,
+            number: self.number,
+            here: self.here.as_slice(),
+            edges: &self.edges,
+            positions: &self.positions,
+        };
+        let mut told = self.spare.outcome(self.alloc);
+        match join_in(&seat, disk, &mut self.held, p, s, now, &mut told) {
+            Ok(()) => {}
+            Err(fault) => {
+                drop(told);
+                return Err(fault_at(p, fault));
+            }
+        }
+        Ok(told)
+    }
+
+    /// Takes a datagram, at the moment `now`. First it is decoded, then it must fit, then its joins must not split from
+    /// those that are held, then it must not clash; one that fails is dropped, and nothing has changed, the held joins
+    /// included. One that is taken is the machine's receipt of its frame, whose joins are held, where they are more,
+    /// before anything is learned. At want of memory the broker is as it was.
     pub fn receive(&mut self, topo: &Topology, bytes: &[u8], now: u64) -> Result<Received, Memory>
         requires fits { IsBrokerOf topo.now self.old }
         ensures says { let r = receipt (net_of topo.now) now self.old (frame_decoded bytes.now) in

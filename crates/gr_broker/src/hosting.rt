@@ -11,11 +11,12 @@ ghost use Rattle.gr_publog.specs.Calls.{Appends, Leaves};
 ghost use Rattle.gr_pubend.specs.Log.{Log as MachineLog, log_of};
 ghost use Rattle.gr_pubend.specs.Answers.{quieted, publish_logs, quiet_logs, IsPlanned, IsPlannedMark};
 ghost use Rattle.gr_topo.specs.Topology.{children_of};
+ghost use Rattle.gr_model.specs.Net.{Net};
 ghost use Rattle.gr_model.specs.NetOf.{net_of};
 ghost use Rattle.gr_model.specs.Broker.{Outcome as MachineOutcome, learn, publish, publish_by, marking};
 ghost use Rattle.gr_model.specs.Broker.{marking_by, wake_host};
 ghost use Rattle.gr_broker_relay.specs.Kept.{IsKept};
-ghost use Rattle.gr_broker_relay.specs.Held.{held_view, IsSite};
+ghost use Rattle.gr_broker_relay.specs.Held.{held_view, shown_net, IsSite};
 ghost use Rattle.gr_broker_relay.specs.Told.{Tells, Adds, AddsFrames, IsBlank};
 ghost use Rattle.gr_broker_relay.specs.Cuts.{tick_cut};
 ghost use Rattle.gr_broker.specs.Hosted.{logged, cut_logs, AppendsTwice, WakeLeaves};
@@ -35,10 +36,10 @@ use gr_pubend::{Published, Quieted, plan, plan_quiet};
 use gr_publog::{Log, LogFault, Record};
 use gr_tick::Piece;
 
-/// Logs a record at the host, and only once it is synced learns what is new by it. What that tells and sends is put
-/// at the end of an outcome. All its memory is taken before the disk is called, and after a fault nothing was
-/// learned.
-fn log_and_learn<D: Disk>(
+/// Logs a record at the host, and only once it is synced learns what is new by it, with the joins that are held. What
+/// that tells and sends is put at the end of an outcome. All its memory is taken before the disk is called, and after a
+/// fault nothing was learned.
+pub(crate) fn log_and_learn<D: Disk>(
     site: &Site<'_>,
     disk: &mut D,
     log: &mut Log,
@@ -51,13 +52,11 @@ fn log_and_learn<D: Disk>(
     requires whole { log.old.broken ≡ false }
     requires follows { may_follow (standing_of log.old.late log.old.records) entry.now ≡ true }
     requires stands { IsReadyOn D.tells (D.lane_of disk.old) log.old }
-    ensures adds { OnOk result ((l : MachineLog) →
-        let o : MachineOutcome = learn (net_of site.now.topo.now) site.now.publisher site.now.broker fresh.now
-        (held_view held.old) l in
+    ensures adds { let net : Net = shown_net site.now.topo.now held.old in OnOk result ((l : MachineLog) →
+        let o : MachineOutcome = learn net site.now.publisher site.now.broker fresh.now (held_view held.old) l in
         Adds o.lines o.frames into.old into.new) }
-    ensures view { OnOk result ((l : MachineLog) →
-        let o : MachineOutcome = learn (net_of site.now.topo.now) site.now.publisher site.now.broker fresh.now
-        (held_view held.old) l in
+    ensures view { let net : Net = shown_net site.now.topo.now held.old in OnOk result ((l : MachineLog) →
+        let o : MachineOutcome = learn net site.now.publisher site.now.broker fresh.now (held_view held.old) l in
         held_view held.new ≡ o.view) }
     ensures part { KeepsPart site.now held.old held.new result }
     ensures log { Leaves log.old (with_record entry.now log.old) (failed log.old) log.new result }
@@ -108,10 +107,10 @@ fn log_event<D: Disk>(
     requires stands { IsReadyOn D.tells (D.lane_of disk.old) log.old }
     requires blank { IsBlank into.old }
     ensures told { OnOk result (Tells (publish_by
-        (net_of site.now.topo.now) site.now.publisher site.now.broker number event.now
+        (shown_net site.now.topo.now held.old) site.now.publisher site.now.broker number event.now
         (held_view held.old) (log_of log.old.records) (Published.Logged tick fresh.now)) into.new) }
     ensures view { OnOk result (let o : MachineOutcome = publish_by
-        (net_of site.now.topo.now) site.now.publisher site.now.broker number event.now
+        (shown_net site.now.topo.now held.old) site.now.publisher site.now.broker number event.now
         (held_view held.old) (log_of log.old.records) (Published.Logged tick fresh.now) in held_view held.new ≡
         o.view) }
     ensures part { KeepsPart site.now held.old held.new result }
@@ -148,7 +147,7 @@ fn log_event<D: Disk>(
 }
 
 /// One line is told, and nothing is sent, by an outcome that told nothing before.
-fn tell(line: Report, into: &mut Outcome) -> Result<(), LogFault>
+pub(crate) fn tell(line: Report, into: &mut Outcome) -> Result<(), LogFault>
     requires { IsBlank into.old }
     ensures lines { OnOk result (into.new.reports ≡ line ∷ []) }
     ensures frames { OnOk result (into.new.frames.frames ≡ []) }
@@ -181,10 +180,10 @@ pub(crate) fn publish<D: Disk>(
     requires stands { IsReadyOn D.tells (D.lane_of disk.old) log.old }
     requires blank { IsBlank into.old }
     ensures told { OnOk result (Tells (publish
-        (net_of site.now.topo.now) site.now.publisher site.now.broker now number event.now
+        (shown_net site.now.topo.now held.old) site.now.publisher site.now.broker now number event.now
         (held_view held.old) (log_of log.old.records)) into.new) }
     ensures view { OnOk result (let o : MachineOutcome = publish
-        (net_of site.now.topo.now) site.now.publisher site.now.broker now number event.now
+        (shown_net site.now.topo.now held.old) site.now.publisher site.now.broker now number event.now
         (held_view held.old) (log_of log.old.records) in held_view held.new ≡ o.view) }
     ensures part { KeepsPart site.now held.old held.new result }
     ensures log { let r = publish_logs log.old.records number event.now now in
@@ -243,10 +242,10 @@ fn mark<D: Disk>(
         ≡ tick_marked (quieted (log_of log.old.records) now site.now.topo.now.settings.quiet)) }
     ensures wants { IsErr result → IsSome (quiet_logs log.old.records now site.now.topo.now.settings.quiet) }
     ensures adds { OnOk result (let o : MachineOutcome = marking
-        (net_of site.now.topo.now) site.now.publisher site.now.broker now
+        (shown_net site.now.topo.now held.old) site.now.publisher site.now.broker now
         (held_view held.old) (log_of log.old.records) in Adds o.lines o.frames into.old into.new) }
     ensures view { OnOk result (let o : MachineOutcome = marking
-        (net_of site.now.topo.now) site.now.publisher site.now.broker now
+        (shown_net site.now.topo.now held.old) site.now.publisher site.now.broker now
         (held_view held.old) (log_of log.old.records) in held_view held.new ≡ o.view) }
     ensures part { KeepsPart site.now held.old held.new result }
     ensures log { let r = quiet_logs log.old.records now site.now.topo.now.settings.quiet in
@@ -294,11 +293,11 @@ fn log_mark<D: Disk>(
     requires stands { IsReadyOn D.tells (D.lane_of disk.old) log.old }
     ensures tick { IfOk result (λ t. t ≡ Some tick) }
     ensures adds { OnOk result (let o : MachineOutcome = marking_by
-        (net_of site.now.topo.now) site.now.publisher site.now.broker
+        (shown_net site.now.topo.now held.old) site.now.publisher site.now.broker
         (held_view held.old) (log_of log.old.records) (Quieted.Marked tick fresh.now) in
         Adds o.lines o.frames into.old into.new) }
     ensures view { OnOk result (let o : MachineOutcome = marking_by
-        (net_of site.now.topo.now) site.now.publisher site.now.broker
+        (shown_net site.now.topo.now held.old) site.now.publisher site.now.broker
         (held_view held.old) (log_of log.old.records) (Quieted.Marked tick fresh.now) in held_view held.new ≡ o.view) }
     ensures part { KeepsPart site.now held.old held.new result }
     ensures log { Leaves log.old (with_record (Record.Mark tick) log.old) (failed log.old) log.new result }
@@ -460,10 +459,11 @@ pub(crate) fn wake_host<D: Disk>(
     requires now { now ≤ MAX_TICK }
     requires stands { IsReadyOn D.tells (D.lane_of disk.old) log.old }
     ensures told { IfOk result (λ told.
-        Tells (wake_host (net_of site.now.topo.now) site.now.publisher site.now.broker now
+        Tells (wake_host (shown_net site.now.topo.now held.old) site.now.publisher site.now.broker now
         (held_view held.old) (log_of log.old.records)) told) }
-    ensures leaves { let m : MachineOutcome = marking (net_of site.now.topo.now) site.now.publisher site.now.broker now
-        (held_view held.old) (log_of log.old.records) in
+    ensures leaves { let net : Net = shown_net site.now.topo.now held.old in
+        let m : MachineOutcome = marking net site.now.publisher site.now.broker now (held_view held.old)
+        (log_of log.old.records) in
         let marked = logged log.old (quiet_logs log.old.records now site.now.topo.now.settings.quiet) in
         let cut = cut_logs (net_of site.now.topo.now) site.now.publisher site.now.broker m.view m.log in
         let woken = logged marked cut in
@@ -472,14 +472,16 @@ pub(crate) fn wake_host<D: Disk>(
         (host_with (held_view held.new) log.new) result }
     ensures kept { IsKept (net_of site.now.topo.now) site.now.publisher site.now.broker (held_view held.new) }
     ensures elsewhere { held.new.log ≡ held.old.log }
-    ensures lane { let m : MachineOutcome = marking (net_of site.now.topo.now) site.now.publisher site.now.broker now
-        (held_view held.old) (log_of log.old.records) in
+    ensures lane { let net : Net = shown_net site.now.topo.now held.old in
+        let m : MachineOutcome = marking net site.now.publisher site.now.broker now (held_view held.old)
+        (log_of log.old.records) in
         let marked = quiet_logs log.old.records now site.now.topo.now.settings.quiet in
         let cut = cut_logs (net_of site.now.topo.now) site.now.publisher site.now.broker m.view m.log in
         let l = log.old in let before = D.lane_of disk.old l.lane in
         D.tells → AppendsTwice l marked cut before (D.lane_of disk.new l.lane) result }
-    ensures reopen { let m : MachineOutcome = marking (net_of site.now.topo.now) site.now.publisher site.now.broker now
-        (held_view held.old) (log_of log.old.records) in
+    ensures reopen { let net : Net = shown_net site.now.topo.now held.old in
+        let m : MachineOutcome = marking net site.now.publisher site.now.broker now (held_view held.old)
+        (log_of log.old.records) in
         let marked = quiet_logs log.old.records now site.now.topo.now.settings.quiet in
         let cut = cut_logs (net_of site.now.topo.now) site.now.publisher site.now.broker m.view m.log in
         IsErrOf result LogFault.Reopen ↔ ((log.old.broken ≡ true) × (IsSome marked ⊎ IsSome cut)) }

@@ -16,17 +16,20 @@
 //! | `starting` | Starts: opens the logs of the publishers that are here. | `started`; `Opened`, `Starting` |
 //! | `publishing` | For a publish, takes out a publisher's part and its log; puts the log back. | `Hosted` |
 //! | `hosting` | At the host: logs an event and then learns it, marks silence, cuts. | `publish`, `wake_host`; `Host` |
+//! | `joining` | For a join, the same: logs it, holds it, and then learns the silence up to it. | `Hosted` |
 //! | `waking` | For a wake, takes out a part; wakes the host, or a broker below it. | `Hosted`, `Parts` |
-//! | `receiving` | Takes a datagram: it is decoded, then it must fit, then it must not clash. | `Receipt` |
+//! | `receiving` | Takes a datagram: it is decoded, it must fit, not split, and not clash. | `Receipt` |
 //! | `lane` | Which lane of a disk has a publisher's log. | `Lanes` |
 //! | `outcome` | Why a call is refused or a datagram dropped; lists to be used again. | none |
 //! | `law` | Laws of the machine's calls. | `learn`, `receive`, `clashes` |
 //!
-//! What these calls do tick by tick is said by the rules `Publishes`, `HostWakes`, `Wakes`, and `Comes` for a frame, in
-//! `gr_model_calls/specs/Rules.antt`. What is learned, asked and answered for one publisher is in `gr_broker_relay`.
+//! What these calls do tick by tick is said by the rules `Publishes`, `TakesJoin`, `HostWakes`, `Wakes`, and `Comes` for
+//! a frame, in `gr_model_calls/specs/Rules.antt`. Each is at the net that the held joins show: a late subscriber wants
+//! what is past its join. What is learned, asked and answered for one publisher is in `gr_broker_relay`.
 
 mod broker;
 mod hosting;
+mod joining;
 mod lane;
 mod law;
 mod outcome;

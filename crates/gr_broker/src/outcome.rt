@@ -3,6 +3,7 @@
 ghost use Rattle.std.specs.Prelude.{◌≡◌, []};
 
 use gr_broker_relay::Outcome;
+use gr_event::Join;
 use gr_frame::{FrameFault, Frames, Head};
 use gr_know::Clash;
 use gr_model::Reports;
@@ -67,12 +68,22 @@ pub enum Dropped {
         /// The first fault, with its place.
         fault: FrameFault,
     },
-    /// It is a frame, and it does not fit: it is for another broker, or it does not come from where it should.
+    /// It is a frame, and it does not fit: it is for another broker, it does not come from where it should, or it
+    /// brings a join of a subscriber that is not late.
     Stray {
         /// Where it says it comes from and goes to, and of which publisher it speaks.
         head: Head,
     },
-    /// It fits, and clashes with what is known.
+    /// It fits, and of its joins and those that are held neither list begins with the other.
+    Split {
+        /// The least place, counted from 0, at which the two lists differ.
+        at: u16,
+        /// The join that is held there.
+        kept: Join,
+        /// The join that came there.
+        came: Join,
+    },
+    /// It fits, its joins do not split from those that are held, and it clashes with what is known.
     Clash {
         /// The least tick at which it does, what is kept there and what came.
         clash: Clash,

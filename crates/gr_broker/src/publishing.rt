@@ -11,11 +11,12 @@ ghost use Rattle.gr_model.specs.NetOf.{net_of};
 ghost use Rattle.gr_model.specs.Broker.{Outcome as MachineOutcome, publish};
 ghost use Rattle.gr_model.specs.World.{blank_view};
 ghost use Rattle.gr_broker_relay.specs.Kept.{IsKept};
-ghost use Rattle.gr_broker_relay.specs.Held.{held_view, IsSeat};
+ghost use Rattle.gr_broker_relay.specs.Held.{held_view, shown_net, IsSeat};
 ghost use Rattle.gr_broker_relay.specs.Told.{Tells, IsBlank};
 ghost use Rattle.gr_broker.specs.Lanes.{log_lane};
 ghost use Rattle.gr_broker.specs.Seen.{log_in, log_said, with_logged, with_failed, is_broken, broken_at};
 ghost use Rattle.gr_broker.specs.Seen.{logs_of, broker_at};
+ghost use Rattle.gr_broker.specs.Of.{HoldJoins};
 ghost use Rattle.gr_broker.specs.Hosted.{publish_at, publish_logs_at, after_publish, AppendsAt};
 ghost use Rattle.gr_broker.specs.Keeps.{IsAtHost, UsesLane};
 
@@ -41,10 +42,10 @@ fn publish_part<D: Disk>(
     requires here { IsSome part.old.log }
     requires blank { IsBlank into.old }
     requires stands { D.tells → (l : LogView) → part.old.log ≡ Some l → IsReady l (D.lane_of disk.old l.lane) }
-    ensures told { OnOk result (Tells (publish (net_of site.now.topo.now) site.now.publisher site.now.broker now
-        number event.now (held_view part.old) (log_said part.old.log)) into.new) }
-    ensures view { OnOk result (let o : MachineOutcome = publish (net_of site.now.topo.now) site.now.publisher
-        site.now.broker now number event.now (held_view part.old) (log_said part.old.log) in
+    ensures told { OnOk result (Tells (publish (shown_net site.now.topo.now part.old) site.now.publisher
+        site.now.broker now number event.now (held_view part.old) (log_said part.old.log)) into.new) }
+    ensures view { OnOk result (let o : MachineOutcome = publish (shown_net site.now.topo.now part.old)
+        site.now.publisher site.now.broker now number event.now (held_view part.old) (log_said part.old.log) in
         held_view part.new ≡ o.view) }
     ensures err { OnErr result (held_view part.new ≡ held_view part.old) }
     ensures kept { IsKept (net_of site.now.topo.now) site.now.publisher site.now.broker (held_view part.new) }
@@ -91,6 +92,7 @@ pub(crate) fn publish_in<D: Disk>(
     requires lanes { (q : ℕ) (l : LogView) → get_or (logs_of held.old.items) q None ≡ Some l → l.lane ≡ log_lane q }
     requires late { (q : ℕ) (l : LogView) → get_or (logs_of held.old.items) q None ≡ Some l
         → l.late ≡ seat.now.topo.now.late }
+    requires joined { HoldJoins (map held_view held.old.items) (logs_of held.old.items) }
     requires now { now ≤ MAX_TICK }
     requires blank { IsBlank into.old }
     requires stands { D.tells → (q : ℕ) (l : LogView) → get_or (logs_of held.old.items) q None ≡ Some l
@@ -110,6 +112,7 @@ pub(crate) fn publish_in<D: Disk>(
     ensures lanes { (q : ℕ) (l : LogView) → get_or (logs_of held.new.items) q None ≡ Some l → l.lane ≡ log_lane q }
     ensures late { (q : ℕ) (l : LogView) → get_or (logs_of held.new.items) q None ≡ Some l
         → l.late ≡ seat.now.topo.now.late }
+    ensures joined { HoldJoins (map held_view held.new.items) (logs_of held.new.items) }
     ensures many { length held.new.items ≡ length held.old.items }
     ensures lane { let b = broker_at seat.now held.old.items in D.tells
         → AppendsAt b p (publish_logs_at b p now number event.now) (D.lane_of disk.old) (D.lane_of disk.new) result }

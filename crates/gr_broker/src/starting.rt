@@ -26,6 +26,7 @@ use crate::lane::log_lane;
 use crate::outcome::BrokerFault;
 use gr_broker_relay::{Held, Memory, Outcome, Placed, Site, learn};
 use gr_curio::{Asks, Wants};
+use gr_event::Joins;
 use gr_know::Know;
 use gr_model::{Report, Reports};
 use gr_out::Disk;
@@ -37,10 +38,10 @@ use gr_topo::Topology;
 use std::alloc::Global;
 
 /// What is kept of a publisher before anything was asked or handed over.
-fn fresh_held(site: &Site<'_>, know: Know, log: Option<Log>) -> Result<Held, Memory>
+fn fresh_held(site: &Site<'_>, know: Know, joins: Joins, log: Option<Log>) -> Result<Held, Memory>
     requires { IsSite site.now }
     ensures view { IfOk result (λ held. held_view held
-        ≡ fresh_view site.now.topo.now site.now.publisher site.now.broker know.runs) }
+        ≡ fresh_view site.now.topo.now site.now.publisher site.now.broker know.runs joins) }
     ensures log { IfOk result (λ held. held.log ≡ log) }
 {
     let wants = Wants::new(site.alloc, site.position.children.len())?;
@@ -50,6 +51,7 @@ fn fresh_held(site: &Site<'_>, know: Know, log: Option<Log>) -> Result<Held, Mem
         asks: Asks::new(site.alloc),
         horizon: Subend::new(),
         log,
+        joins,
     })
 }
 
@@ -70,7 +72,7 @@ fn tell_opened(log: &Log, p: u16, into: &mut Reports) -> Result<(), Memory>
     })
 }
 
-/// What is kept of a publisher that is here, over its log.
+/// What is kept of a publisher that is here, over its log, whose joins are held.
 fn held_over(site: &Site<'_>, log: Log, into: &mut Reports) -> Result<Held, Memory>
     requires site { IsSite site.now }
     requires here { is_here site.now ≡ true }
@@ -81,9 +83,12 @@ fn held_over(site: &Site<'_>, log: Log, into: &mut Reports) -> Result<Held, Memo
     ensures log { IfOk result (λ held. held.log ≡ Some log) }
     ensures lines { IfOk result (λ held. into.new ≡ into.old ++ lines_at site.now held) }
 {
+    // Proof only: the records follow one another.
+    let _ = log.is_broken();
     let know = known_by(site.alloc, &log)?;
     tell_opened(&log, site.publisher, into)?;
-    let mut held = fresh_held(site, know, Some(log))?;
+    let joins = log.joins().share();
+    let mut held = fresh_held(site, know, joins, Some(log))?;
     if site.here.is_empty() {
         return Ok(held);
     }
@@ -101,7 +106,7 @@ fn held_below(site: &Site<'_>) -> Result<Held, Memory>
     ensures log { IfOk result (λ held. held.log ≡ None) }
     ensures lines { IfOk result (λ held. lines_at site.now held ≡ []) }
 {
-    let held = fresh_held(site, Know::new(site.alloc), None)?;
+    let held = fresh_held(site, Know::new(site.alloc), Joins::new(site.alloc), None)?;
     Ok(held)
 }
 

@@ -12,7 +12,7 @@ ghost use Rattle.gr_broker_relay.specs.Kept.{IsKept};
 ghost use Rattle.gr_broker_relay.specs.Held.{held_view, IsSeat, IsSite};
 ghost use Rattle.gr_broker_relay.specs.Told.{Tells};
 ghost use Rattle.gr_broker.specs.Lanes.{log_lane};
-ghost use Rattle.gr_broker.specs.Seen.{log_in, log_said, machine_log, is_broken, broken_at, broker_at};
+ghost use Rattle.gr_broker.specs.Seen.{log_in, log_said, machine_log, is_broken, broken_at, broker_at, HasJoins};
 ghost use Rattle.gr_broker.specs.Of.{IsBrokerOf, LogsStand};
 ghost use Rattle.gr_broker.specs.Told.{log_answer};
 ghost use Rattle.gr_broker.specs.Parts.{part_of, part_wake, part_mark_logs, part_cut_logs, part_marked, part_woken};
@@ -39,6 +39,7 @@ fn wake_here<D: Disk>(
     requires hosted { is_some part.old.log ≡ is_host (net_of site.now.topo.now) site.now.publisher site.now.broker }
     requires lanes { (l : LogView) → part.old.log ≡ Some l → l.lane ≡ log_lane site.now.publisher }
     requires late { (l : LogView) → part.old.log ≡ Some l → l.late ≡ site.now.topo.now.late }
+    requires joined { (l : LogView) → part.old.log ≡ Some l → HasJoins (held_view part.old) l }
     requires now { now ≤ MAX_TICK }
     requires stands { let lane = log_lane site.now.publisher in
         D.tells → (l : LogView) → part.old.log ≡ Some l → IsReady l (D.lane_of disk.old lane) }
@@ -55,6 +56,7 @@ fn wake_here<D: Disk>(
     ensures hosted { is_some part.new.log ≡ is_some part.old.log }
     ensures lanes { (l : LogView) → part.new.log ≡ Some l → l.lane ≡ log_lane site.now.publisher }
     ensures late { (l : LogView) → part.new.log ≡ Some l → l.late ≡ site.now.topo.now.late }
+    ensures joined { (l : LogView) → part.new.log ≡ Some l → HasJoins (held_view part.new) l }
     ensures lane { let x = part_of part.old in let lane = log_lane site.now.publisher in
         D.tells → (l : LogView) → part.old.log ≡ Some l → AppendsTwice l (part_mark_logs site.now.topo.now now x)
         (part_cut_logs site.now.topo.now site.now.publisher site.now.broker now x)
@@ -90,6 +92,7 @@ fn wake_part<D: Disk>(
     requires hosted { is_some part.old.log ≡ is_host (net_of site.now.topo.now) site.now.publisher site.now.broker }
     requires lanes { (l : LogView) → part.old.log ≡ Some l → l.lane ≡ log_lane site.now.publisher }
     requires late { (l : LogView) → part.old.log ≡ Some l → l.late ≡ site.now.topo.now.late }
+    requires joined { (l : LogView) → part.old.log ≡ Some l → HasJoins (held_view part.old) l }
     requires now { now ≤ MAX_TICK }
     requires stands { let lane = log_lane site.now.publisher in
         D.tells → (l : LogView) → part.old.log ≡ Some l → IsReady l (D.lane_of disk.old lane) }
@@ -106,6 +109,7 @@ fn wake_part<D: Disk>(
     ensures hosted { is_some part.new.log ≡ is_some part.old.log }
     ensures lanes { (l : LogView) → part.new.log ≡ Some l → l.lane ≡ log_lane site.now.publisher }
     ensures late { (l : LogView) → part.new.log ≡ Some l → l.late ≡ site.now.topo.now.late }
+    ensures joined { (l : LogView) → part.new.log ≡ Some l → HasJoins (held_view part.new) l }
     ensures lane { let x = part_of part.old in let lane = log_lane site.now.publisher in
         D.tells → (l : LogView) → part.old.log ≡ Some l → AppendsTwice l (part_mark_logs site.now.topo.now now x)
         (part_cut_logs site.now.topo.now site.now.publisher site.now.broker now x)

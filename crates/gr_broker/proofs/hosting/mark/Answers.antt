@@ -4,8 +4,7 @@ use Rattle.gr_publog.proofs.Calling.{appends_refused, appends_none}
 use Rattle.gr_pubend.specs.Answers.{quieted, mark_of}
 use Rattle.gr_pubend.specs.Log.{log_of}
 use Rattle.gr_topo.specs.declared.settings.Settings.{Settings}
-use Rattle.gr_model.specs.NetOf.{net_of}
-use Rattle.gr_broker_relay.specs.Held.{held_view}
+use Rattle.gr_broker_relay.specs.Held.{held_view, shown_net}
 use Rattle.gr_broker.proofs.Hosted.{marking_is, adds_nothing}
 use Rattle.gr_broker.proofs.hosting.mark.Goals as goal
 
@@ -15,13 +14,13 @@ returns-in-Err-clause-lane g c = λ t. appends_refused c.args.log.now _ _ _ (c.r
 pub returns-in-NotYet-clause-adds : goal.returns-in-NotYet-clause-adds
 returns-in-NotYet-clause-adds g c =
     let same = ap (λ (s : Settings). quieted (log_of c.args.log.now.records) c.args.now s.quiet) (sym c.settings.ensures.value) in
-    let is = marking_is (net_of c.args.site.now.topo.now) c.args.site.now.publisher c.args.site.now.broker c.args.now (held_view c.args.held.now) (log_of c.args.log.now.records) _ (same ∙ sym c.in-Ok.ensures.answer ∙ c.in-NotYet.is) in
+    let is = marking_is (shown_net c.args.site.now.topo.now c.args.held.now) c.args.site.now.publisher c.args.site.now.broker c.args.now (held_view c.args.held.now) (log_of c.args.log.now.records) _ (same ∙ sym c.in-Ok.ensures.answer ∙ c.in-NotYet.is) in
     rw is (adds_nothing c.args.into.now)
 
 pub returns-in-NotYet-clause-view : goal.returns-in-NotYet-clause-view
 returns-in-NotYet-clause-view g c =
     let same = ap (λ (s : Settings). quieted (log_of c.args.log.now.records) c.args.now s.quiet) (sym c.settings.ensures.value) in
-    let is = marking_is (net_of c.args.site.now.topo.now) c.args.site.now.publisher c.args.site.now.broker c.args.now (held_view c.args.held.now) (log_of c.args.log.now.records) _ (same ∙ sym c.in-Ok.ensures.answer ∙ c.in-NotYet.is) in
+    let is = marking_is (shown_net c.args.site.now.topo.now c.args.held.now) c.args.site.now.publisher c.args.site.now.broker c.args.now (held_view c.args.held.now) (log_of c.args.log.now.records) _ (same ∙ sym c.in-Ok.ensures.answer ∙ c.in-NotYet.is) in
     rw is refl
 
 pub returns-in-NotYet-clause-lane : goal.returns-in-NotYet-clause-lane
@@ -32,11 +31,11 @@ returns-in-NotYet-clause-lane g c = λ t.
 pub returns-in-Marked-clause-adds : goal.returns-in-Marked-clause-adds
 returns-in-Marked-clause-adds g c =
     let same = ap (λ (s : Settings). quieted (log_of c.args.log.now.records) c.args.now s.quiet) (sym c.settings.ensures.value) in
-    let is = marking_is (net_of c.args.site.now.topo.now) c.args.site.now.publisher c.args.site.now.broker c.args.now (held_view c.args.held.now) (log_of c.args.log.now.records) _ (same ∙ sym c.in-Ok.ensures.answer ∙ c.in-Marked.is) in
+    let is = marking_is (shown_net c.args.site.now.topo.now c.args.held.now) c.args.site.now.publisher c.args.site.now.broker c.args.now (held_view c.args.held.now) (log_of c.args.log.now.records) _ (same ∙ sym c.in-Ok.ensures.answer ∙ c.in-Marked.is) in
     rw is c.log_mark-done.ensures.adds
 
 pub returns-in-Marked-clause-view : goal.returns-in-Marked-clause-view
 returns-in-Marked-clause-view g c =
     let same = ap (λ (s : Settings). quieted (log_of c.args.log.now.records) c.args.now s.quiet) (sym c.settings.ensures.value) in
-    let is = marking_is (net_of c.args.site.now.topo.now) c.args.site.now.publisher c.args.site.now.broker c.args.now (held_view c.args.held.now) (log_of c.args.log.now.records) _ (same ∙ sym c.in-Ok.ensures.answer ∙ c.in-Marked.is) in
+    let is = marking_is (shown_net c.args.site.now.topo.now c.args.held.now) c.args.site.now.publisher c.args.site.now.broker c.args.now (held_view c.args.held.now) (log_of c.args.log.now.records) _ (same ∙ sym c.in-Ok.ensures.answer ∙ c.in-Marked.is) in
     rw is c.log_mark-done.ensures.view

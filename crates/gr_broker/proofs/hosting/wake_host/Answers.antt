@@ -3,8 +3,7 @@ use Rattle.std.proofs.Common.{◌≡◌, ℕ, true, Ok, Err, refl, sym, ap, ◌�
 use Rattle.gr_publog.specs.declared.record.LogFault.TheVariants as fault
 use Rattle.gr_publog.specs.Crash.{LogView}
 use Rattle.gr_publog.proofs.Calling.{appends_ok_as, appends_err_as, same_fault}
-use Rattle.gr_model.specs.NetOf.{net_of}
-use Rattle.gr_broker_relay.specs.Held.{held_view}
+use Rattle.gr_broker_relay.specs.Held.{held_view, shown_net}
 use Rattle.gr_broker.specs.Keeps.{UsesLane}
 use Rattle.gr_broker.proofs.Twice.{twice_stopped, twice_on, second_lane, second_on, second_ok, second_err, second_told, second_reopens, first_reopens}
 use Rattle.gr_broker.proofs.Using.{uses_ok_as, uses_err_as, uses_then}
@@ -25,14 +24,14 @@ returns-in-Ok-cut-clause-told g c =
     let site = c.args.site.now in
     let m = c.in-Ok.ensures in
     let k = c.in-Ok-cut.ensures in
-    second_told (net_of site.topo.now) site.publisher site.broker c.args.now (held_view c.args.held.now) (held_view c.mark.new.held) c.args.log.now c.mark.new.log m.log.ok m.view
+    second_told (shown_net site.topo.now c.args.held.now) site.publisher site.broker c.args.now (held_view c.args.held.now) (held_view c.mark.new.held) c.args.log.now c.mark.new.log m.log.ok m.view
     c.in-Ok.marked c.new-told.result c.mark.new.into c.cut.new.into c.settings.ensures.topology.sound.settings.quiet.0 m.tick c.new-told.ensures.reports c.new-told.ensures.frames m.adds k.lines k.frames
 
 pub returns-in-Ok-cut-clause-leaves : goal.returns-in-Ok-cut-clause-leaves
 returns-in-Ok-cut-clause-leaves g c =
     let site = c.args.site.now in
     let m = c.in-Ok.ensures in
-    second_ok (net_of site.topo.now) site.publisher site.broker c.args.now (held_view c.args.held.now) (held_view c.mark.new.held) c.args.log.now c.mark.new.log m.log.ok m.view
+    second_ok (shown_net site.topo.now c.args.held.now) site.publisher site.broker c.args.now (held_view c.args.held.now) (held_view c.mark.new.held) c.args.log.now c.mark.new.log m.log.ok m.view
     c.cut.new.log c.cut.new.into c.in-Ok-cut.ensures.log
 
 pub returns-in-Ok-cut-clause-lane : goal.returns-in-Ok-cut-clause-lane
@@ -41,10 +40,10 @@ returns-in-Ok-cut-clause-lane g c = λ t.
     let m = c.in-Ok.ensures in
     let before = g.D.Disk.lane_of c.mark.new.disk in
     let after = g.D.Disk.lane_of c.cut.new.disk in
-    let on = second_on (net_of site.topo.now) site.publisher site.broker c.args.now (held_view c.args.held.now) (held_view c.mark.new.held) c.args.log.now c.mark.new.log m.log.ok m.view before after (c.in-Ok-cut.ensures.uses.lane.goes_on t) in
+    let on = second_on (shown_net site.topo.now c.args.held.now) site.publisher site.broker c.args.now (held_view c.args.held.now) (held_view c.mark.new.held) c.args.log.now c.mark.new.log m.log.ok m.view before after (c.in-Ok-cut.ensures.uses.lane.goes_on t) in
     twice_on c.args.log.now _ _ _ _ _ _ on.more on.start on.calls (appends_ok_as c.args.log.now _ _ _ c.in-Ok.marked tt (m.lane t))
     (appends_ok_as _ _ _ _ tt c.cut.new.into
-    (second_lane (net_of site.topo.now) site.publisher site.broker c.args.now (held_view c.args.held.now) (held_view c.mark.new.held) c.args.log.now c.mark.new.log m.log.ok m.view before after _ (c.in-Ok-cut.ensures.lane t)))
+    (second_lane (shown_net site.topo.now c.args.held.now) site.publisher site.broker c.args.now (held_view c.args.held.now) (held_view c.mark.new.held) c.args.log.now c.mark.new.log m.log.ok m.view before after _ (c.in-Ok-cut.ensures.lane t)))
 
 pub returns-in-Ok-cut-clause-uses : goal.returns-in-Ok-cut-clause-uses
 returns-in-Ok-cut-clause-uses g c =
@@ -61,7 +60,7 @@ pub returns-in-Ok-cut-clause-reopen : goal.returns-in-Ok-cut-clause-reopen
 returns-in-Ok-cut-clause-reopen g c =
     let site = c.args.site.now in
     let m = c.in-Ok.ensures in
-    second_reopens (net_of site.topo.now) site.publisher site.broker c.args.now (held_view c.args.held.now) (held_view c.mark.new.held) c.args.log.now c.mark.new.log m.log.ok m.view
+    second_reopens (shown_net site.topo.now c.args.held.now) site.publisher site.broker c.args.now (held_view c.args.held.now) (held_view c.mark.new.held) c.args.log.now c.mark.new.log m.log.ok m.view
     (Ok tt) (Ok c.cut.new.into) c.in-Ok-cut.ensures.reopen (λ h. cc h, λ h. cc h) (λ h. let e = m.reopen.1 h in cc e)
 
 -- Where the cut did not
@@ -71,7 +70,7 @@ returns-in-Err-cut-clause-leaves g c =
     let site = c.args.site.now in
     let m = c.in-Ok.ensures in
     let k = c.in-Err-cut.ensures in
-    second_err (net_of site.topo.now) site.publisher site.broker c.args.now (held_view c.args.held.now) (held_view c.mark.new.held) c.args.log.now c.mark.new.log m.log.ok m.view
+    second_err (shown_net site.topo.now c.args.held.now) site.publisher site.broker c.args.now (held_view c.args.held.now) (held_view c.mark.new.held) c.args.log.now c.mark.new.log m.log.ok m.view
     c.cut.new.log c.in-Err-cut.fault k.log
     (λ h s.
     let broken : c.args.log.now.broken ≡ true = sym (ap (λ (x : LogView). x.broken) m.log.ok) ∙ (k.reopen.0 h).0 in
@@ -84,10 +83,10 @@ returns-in-Err-cut-clause-lane g c = λ t.
     let m = c.in-Ok.ensures in
     let before = g.D.Disk.lane_of c.mark.new.disk in
     let after = g.D.Disk.lane_of c.cut.new.disk in
-    let on = second_on (net_of site.topo.now) site.publisher site.broker c.args.now (held_view c.args.held.now) (held_view c.mark.new.held) c.args.log.now c.mark.new.log m.log.ok m.view before after (c.in-Err-cut.ensures.uses.lane.goes_on t) in
+    let on = second_on (shown_net site.topo.now c.args.held.now) site.publisher site.broker c.args.now (held_view c.args.held.now) (held_view c.mark.new.held) c.args.log.now c.mark.new.log m.log.ok m.view before after (c.in-Err-cut.ensures.uses.lane.goes_on t) in
     twice_on c.args.log.now _ _ _ _ _ _ on.more on.start on.calls (appends_ok_as c.args.log.now _ _ _ c.in-Ok.marked tt (m.lane t))
     (appends_err_as _ _ _ _ c.in-Err-cut.fault
-    (second_lane (net_of site.topo.now) site.publisher site.broker c.args.now (held_view c.args.held.now) (held_view c.mark.new.held) c.args.log.now c.mark.new.log m.log.ok m.view before after _ (c.in-Err-cut.ensures.lane t)))
+    (second_lane (shown_net site.topo.now c.args.held.now) site.publisher site.broker c.args.now (held_view c.args.held.now) (held_view c.mark.new.held) c.args.log.now c.mark.new.log m.log.ok m.view before after _ (c.in-Err-cut.ensures.lane t)))
 
 pub returns-in-Err-cut-clause-uses : goal.returns-in-Err-cut-clause-uses
 returns-in-Err-cut-clause-uses g c =
@@ -106,6 +105,6 @@ pub returns-in-Err-cut-clause-reopen : goal.returns-in-Err-cut-clause-reopen
 returns-in-Err-cut-clause-reopen g c =
     let site = c.args.site.now in
     let m = c.in-Ok.ensures in
-    second_reopens (net_of site.topo.now) site.publisher site.broker c.args.now (held_view c.args.held.now) (held_view c.mark.new.held) c.args.log.now c.mark.new.log m.log.ok m.view
+    second_reopens (shown_net site.topo.now c.args.held.now) site.publisher site.broker c.args.now (held_view c.args.held.now) (held_view c.mark.new.held) c.args.log.now c.mark.new.log m.log.ok m.view
     (Err c.in-Err-cut.fault) (Err c.in-Err-cut.fault) c.in-Err-cut.ensures.reopen
     (λ h. same_fault c.in-Err-cut.fault fault.Reopen h, λ h. same_fault c.in-Err-cut.fault fault.Reopen h) (λ h. let e = m.reopen.1 h in cc e)

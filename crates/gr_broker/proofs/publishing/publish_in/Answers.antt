@@ -5,7 +5,7 @@ use Rattle.gr_publog.specs.Crash.{LogView}
 use Rattle.gr_publog.specs.Calls.{IsReady, Appends, Leaves}
 use Rattle.gr_pubend.specs.Answers.{published, event_of}
 use Rattle.gr_model.specs.NetOf.{net_of}
-use Rattle.gr_model.specs.Broker.{View, Outcome as MachineOutcome, publish}
+use Rattle.gr_model.specs.Broker.{View, Outcome as MachineOutcome, publish, seen}
 use Rattle.gr_model.specs.World.{blank_view}
 use Rattle.gr_broker_relay.specs.Kept.{IsKept}
 use Rattle.gr_broker_relay.specs.Held.{held_view}
@@ -14,6 +14,7 @@ use Rattle.gr_broker.specs.Hosted.{publish_logs_at}
 use Rattle.gr_broker.specs.Keeps.{UsesLane}
 use Rattle.gr_broker.proofs.Reading.{seen_set, each_set, on_ok}
 use Rattle.gr_broker.proofs.Parts.{part_view, part_log, leaves_exchanged, log_here, each_log, stays_some, stays_on, stays_late, there, said_after, appends_at}
+use Rattle.gr_broker.proofs.Joined.{Beside, beside_said, beside_after, said_joins, publish_joins, hold_set}
 use Rattle.gr_broker.proofs.publishing.publish_in.Given.{Over}
 use Rattle.gr_broker.proofs.publishing.publish_in.Goals as goal
 
@@ -35,11 +36,11 @@ on_lane : (g : Over) (c : goal.After-held-1 g) (l : LogView) → c.index_mut.res
 on_lane g c l e = c.requires.lanes c.args.p l (sym (log_is g c) ∙ e)
 
 -- what the call keeps of it, by the seat
-kept_view : (g : Over) (c : goal.After-held-1 g) → OnOk c.publish_part.result (let o : MachineOutcome = (publish (net_of c.args.seat.now.topo.now) c.args.p c.args.seat.now.number c.args.now c.args.number c.args.event.now (held_view c.index_mut.result.now) (log_said c.index_mut.result.now.log)) in held_view c.publish_part.new.part ≡ o.view)
+kept_view : (g : Over) (c : goal.After-held-1 g) → OnOk c.publish_part.result (let o : MachineOutcome = (publish (seen (net_of c.args.seat.now.topo.now) (held_view c.index_mut.result.now)) c.args.p c.args.seat.now.number c.args.now c.args.number c.args.event.now (held_view c.index_mut.result.now) (log_said c.index_mut.result.now.log)) in held_view c.publish_part.new.part ≡ o.view)
 kept_view g c =
-    subst (λ t. OnOk c.publish_part.result (let o : MachineOutcome = publish (net_of t) c.args.p c.args.seat.now.number c.args.now c.args.number c.args.event.now (held_view c.index_mut.result.now) (log_said c.index_mut.result.now.log) in held_view c.publish_part.new.part ≡ o.view)) c.site_at-site.ensures.topo
-    (subst (λ (n : ℕ). OnOk c.publish_part.result (let o : MachineOutcome = publish (net_of c.site_at-site.result.topo.now) c.args.p n c.args.now c.args.number c.args.event.now (held_view c.index_mut.result.now) (log_said c.index_mut.result.now.log) in held_view c.publish_part.new.part ≡ o.view)) c.site_at-site.ensures.broker
-    (subst (λ (n : ℕ). OnOk c.publish_part.result (let o : MachineOutcome = publish (net_of c.site_at-site.result.topo.now) n c.site_at-site.result.broker c.args.now c.args.number c.args.event.now (held_view c.index_mut.result.now) (log_said c.index_mut.result.now.log) in held_view c.publish_part.new.part ≡ o.view)) c.site_at-site.ensures.publisher
+    subst (λ t. OnOk c.publish_part.result (let o : MachineOutcome = publish (seen (net_of t) (held_view c.index_mut.result.now)) c.args.p c.args.seat.now.number c.args.now c.args.number c.args.event.now (held_view c.index_mut.result.now) (log_said c.index_mut.result.now.log) in held_view c.publish_part.new.part ≡ o.view)) c.site_at-site.ensures.topo
+    (subst (λ (n : ℕ). OnOk c.publish_part.result (let o : MachineOutcome = publish (seen (net_of c.site_at-site.result.topo.now) (held_view c.index_mut.result.now)) c.args.p n c.args.now c.args.number c.args.event.now (held_view c.index_mut.result.now) (log_said c.index_mut.result.now.log) in held_view c.publish_part.new.part ≡ o.view)) c.site_at-site.ensures.broker
+    (subst (λ (n : ℕ). OnOk c.publish_part.result (let o : MachineOutcome = publish (seen (net_of c.site_at-site.result.topo.now) (held_view c.index_mut.result.now)) n c.site_at-site.result.broker c.args.now c.args.number c.args.event.now (held_view c.index_mut.result.now) (log_said c.index_mut.result.now.log) in held_view c.publish_part.new.part ≡ o.view)) c.site_at-site.ensures.publisher
     c.publish_part.ensures.view))
 
 kept_here : (g : Over) (c : goal.After-held-1 g) → IsKept (net_of c.args.seat.now.topo.now) c.args.p c.args.seat.now.number (held_view c.publish_part.new.part)
@@ -55,10 +56,10 @@ publish_part-requires-clause-stands g c t l e =
 
 pub returns-clause-leaves : goal.returns-clause-leaves
 returns-clause-leaves g c =
-    let o : MachineOutcome = (publish (net_of c.args.seat.now.topo.now) c.args.p c.args.seat.now.number c.args.now c.args.number c.args.event.now (held_view c.index_mut.result.now) (log_said c.index_mut.result.now.log)) in
+    let o : MachineOutcome = (publish (seen (net_of c.args.seat.now.topo.now) (held_view c.index_mut.result.now)) c.args.p c.args.seat.now.number c.args.now c.args.number c.args.event.now (held_view c.index_mut.result.now) (log_said c.index_mut.result.now.log)) in
     let s = leaves_exchanged c.args.seat.now.number c.args.seat.now.here.now c.args.seat.now.edges.now c.args.seat.now.positions.now c.args.held.now.items c.args.p c.index_mut.result.now (below g c) c.index_mut.ensures.value c.publish_part.result c.publish_part.new.part (with_logged c.index_mut.result.now.log (event_of (published (log_said c.index_mut.result.now.log) c.args.number c.args.event.now c.args.now) c.args.number c.args.event.now)) o.view c.publish_part.ensures.log (kept_view g c) c.publish_part.ensures.err in
     subst (λ (after : BrokerView). Leaves (broker_at c.args.seat.now c.args.held.now.items) after (broken_at (broker_at c.args.seat.now c.args.held.now.items) c.args.p) (broker_at c.args.seat.now (set c.args.held.now.items c.args.p c.publish_part.new.part)) c.publish_part.result)
-    (ap₂ (λ (l : Option LogView) (v : View). let x : MachineOutcome = publish (net_of c.args.seat.now.topo.now) c.args.p c.args.seat.now.number c.args.now c.args.number c.args.event.now v (log_said l) in
+    (ap₂ (λ (l : Option LogView) (v : View). let x : MachineOutcome = publish (seen (net_of c.args.seat.now.topo.now) v) c.args.p c.args.seat.now.number c.args.now c.args.number c.args.event.now v (log_said l) in
     with_view (with_log (broker_at c.args.seat.now c.args.held.now.items) c.args.p (with_logged l (event_of (published (log_said l) c.args.number c.args.event.now c.args.now) c.args.number c.args.event.now))) c.args.p x.view) (log_is g c) (view_is g c))
     s
 
@@ -66,8 +67,8 @@ pub returns-clause-log : goal.returns-clause-log
 returns-clause-log g c =
     on_ok c.publish_part.result (λ (a : c.publish_part.new.part.log ≡ with_logged c.index_mut.result.now.log (event_of (published (log_said c.index_mut.result.now.log) c.args.number c.args.event.now c.args.now) c.args.number c.args.event.now)).
     ap log_said (log_here c.args.seat.now.number c.args.seat.now.here.now c.args.seat.now.edges.now c.args.seat.now.positions.now c.args.held.now.items c.args.p c.index_mut.result.now (below g c) c.index_mut.ensures.value c.publish_part.new.part ∙ a)
-    ∙ said_after (net_of c.args.seat.now.topo.now) c.args.p c.args.seat.now.number c.args.now c.args.number c.args.event.now (held_view c.index_mut.result.now) c.index_mut.result.now.log (has_log g c)
-    ∙ ap₂ (λ (l : Option LogView) (v : View). let x : MachineOutcome = publish (net_of c.args.seat.now.topo.now) c.args.p c.args.seat.now.number c.args.now c.args.number c.args.event.now v (log_said l) in x.log) (log_is g c) (view_is g c))
+    ∙ said_after (seen (net_of c.args.seat.now.topo.now) (held_view c.index_mut.result.now)) c.args.p c.args.seat.now.number c.args.now c.args.number c.args.event.now (held_view c.index_mut.result.now) c.index_mut.result.now.log (has_log g c)
+    ∙ ap₂ (λ (l : Option LogView) (v : View). let x : MachineOutcome = publish (seen (net_of c.args.seat.now.topo.now) v) c.args.p c.args.seat.now.number c.args.now c.args.number c.args.event.now v (log_said l) in x.log) (log_is g c) (view_is g c))
     c.publish_part.ensures.log.ok
 
 pub returns-clause-kept : goal.returns-clause-kept
@@ -91,6 +92,23 @@ pub returns-clause-late : goal.returns-clause-late
 returns-clause-late g c =
     each_log c.args.seat.now.number c.args.seat.now.here.now c.args.seat.now.edges.now c.args.seat.now.positions.now c.args.held.now.items c.args.p c.index_mut.result.now (below g c) c.index_mut.ensures.value (λ q o. (l : LogView) → o ≡ Some l → l.late ≡ c.args.seat.now.topo.now.late) c.publish_part.new.part (λ q n. c.requires.late q)
     (stays_late c.args.seat.now.topo.now.late c.publish_part.result c.index_mut.result.now.log c.publish_part.new.part.log (event_of (published (log_said c.index_mut.result.now.log) c.args.number c.args.event.now c.args.now) c.args.number c.args.event.now) (λ l e. c.requires.late c.args.p l (sym (log_is g c) ∙ e)) c.publish_part.ensures.log)
+
+-- the joins that are held beside its log
+beside_log : (g : Over) (c : goal.After-held-1 g) → Beside (held_view c.index_mut.result.now) c.index_mut.result.now.log
+beside_log g c l e = ap (λ (v : View). v.joins) (view_is g c) ∙ c.requires.joined c.args.p l (sym (log_is g c) ∙ e)
+
+beside_new : (g : Over) (c : goal.After-held-1 g) → Beside (held_view c.publish_part.new.part) c.publish_part.new.part.log
+beside_new g c =
+    let net = seen (net_of c.args.seat.now.topo.now) (held_view c.index_mut.result.now) in
+    let o : MachineOutcome = publish net c.args.p c.args.seat.now.number c.args.now c.args.number c.args.event.now (held_view c.index_mut.result.now) (log_said c.index_mut.result.now.log) in
+    let next : Option LogView = with_logged c.index_mut.result.now.log (event_of (published (log_said c.index_mut.result.now.log) c.args.number c.args.event.now c.args.now) c.args.number c.args.event.now) in
+    let said = said_after net c.args.p c.args.seat.now.number c.args.now c.args.number c.args.event.now (held_view c.index_mut.result.now) c.index_mut.result.now.log (has_log g c) in
+    let holds = publish_joins net c.args.p c.args.seat.now.number c.args.now c.args.number c.args.event.now (held_view c.index_mut.result.now) (log_said c.index_mut.result.now.log) (said_joins (held_view c.index_mut.result.now) c.index_mut.result.now.log (has_log g c) (beside_log g c)) in
+    beside_after c.publish_part.result (held_view c.index_mut.result.now) (held_view c.publish_part.new.part) o.view c.index_mut.result.now.log c.publish_part.new.part.log next
+    (beside_log g c) (beside_said o.view next o.log said holds) c.publish_part.ensures.log (kept_view g c) c.publish_part.ensures.err
+
+pub returns-clause-joined : goal.returns-clause-joined
+returns-clause-joined g c = hold_set c.args.held.now.items c.args.p c.publish_part.new.part (below g c) c.requires.joined (beside_new g c)
 
 pub returns-clause-uses : goal.returns-clause-uses
 returns-clause-uses g c =

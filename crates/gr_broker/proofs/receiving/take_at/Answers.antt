@@ -1,14 +1,20 @@
-use Rattle.std.proofs.Common.{rules, ◌≡◌, ℕ, ◌<◌, List, length, map, get_or, Some, Ok, IfOk, refl, sym, ap, ◌∙◌, subst}
-use Rattle.std.proofs.lemmas.List.{length-map}
+use Rattle.std.proofs.Common.{rules, ◌≡◌, ℕ, ◌<◌, true, List, length, map, get_or, Some, None, Ok, IfOk, refl, sym, ap, ◌∙◌, subst}
+use Rattle.std.specs.Prelude.{is_some}
+use Rattle.std.proofs.lemmas.List.{length-map, get_or-map}
+use Rattle.gr_topo.specs.Topology.{TopologyView}
+use Rattle.gr_model.specs.Net.{is_host}
 use Rattle.gr_model.specs.NetOf.{net_of}
 use Rattle.gr_model.specs.Broker.{View}
 use Rattle.gr_model.specs.World.{blank_view}
 use Rattle.gr_broker_relay.specs.Kept.{IsKept}
+use Rattle.gr_broker_relay.specs.declared.held.Held.{Held}
 use Rattle.gr_broker_relay.specs.Held.{held_view}
 use Rattle.gr_broker.specs.declared.outcome.Dropped.TheVariants as dropped
-use Rattle.gr_broker.specs.Seen.{BrokerView, seen_broker}
+use Rattle.gr_broker.specs.Seen.{BrokerView, seen_broker, logs_of}
 use Rattle.gr_broker.specs.Receipt.{receipt, receipt_of_fit, view_after, after_receipt, AnswersInto}
 use Rattle.gr_broker.proofs.Reading.{stray_answer, fit_answer, part_is, put_back, on_ok, on_err, same_set, each_set, seen_set}
+use Rattle.gr_broker.proofs.Joined.{hold_set}
+use Rattle.gr_broker.proofs.Receipts.{receipt_joins, same_after}
 use Rattle.gr_broker.proofs.receiving.take_at.Goals as goal
 
 pub returns-then-not-fits-clause-says : goal.returns-then-not-fits-clause-says
@@ -63,3 +69,20 @@ returns-clause-kept c =
     (sym (seen_set held_view c.args.held.now.items c.args.frame.now.head.publisher c.take_frame.new.held))
     (each_set (λ p v. IsKept (net_of c.args.seat.now.topo.now) p c.args.seat.now.number v) (map held_view c.args.held.now.items) c.args.frame.now.head.publisher (held_view c.take_frame.new.held) blank_view (length c.args.seat.now.topo.now.publishers)
     (subst (λ n. c.args.frame.now.head.publisher < n) (sym (length-map c.args.held.now.items held_view)) (search rules)) c.requires.kept (kept_here c))
+
+-- where its log is here, its joins are still held: at the host only what a child asks comes
+pub returns-clause-joined : goal.returns-clause-joined
+returns-clause-joined c =
+    let held = c.args.held.now.items in
+    let p = c.args.frame.now.head.publisher in
+    let old = c.index_mut.result.now in
+    let new = c.take_frame.new.held in
+    let lt : p < length held = search rules in
+    hold_set held p new lt c.requires.joined (λ l e.
+    let is : get_or (logs_of held) p None ≡ Some l = get_or-map (λ (x : Held). x.log) held p old None lt ∙ ap (λ (x : Held). x.log) (sym c.index_mut.ensures.value) ∙ sym c.take_frame.ensures.log ∙ e in
+    let seen_here : held_view old ≡ get_or (map held_view held) p blank_view = ap held_view c.index_mut.ensures.value ∙ sym (get_or-map held_view held p old blank_view lt) in
+    let host : is_host (net_of c.args.seat.now.topo.now) p c.args.seat.now.number ≡ true = sym (c.requires.hosted p (search rules)) ∙ ap is_some is in
+    same_after c.take_frame.result (held_view old) (held_view new) _ c.take_frame.ensures.view c.take_frame.ensures.err
+    (subst (λ (t : TopologyView). (view_after (receipt_of_fit (net_of t) c.args.now (held_view old) c.args.frame.now) (held_view old)).joins ≡ (held_view old).joins) (sym c.site_at-site.ensures.topo)
+    (receipt_joins c.args.seat.now.topo.now c.args.now c.args.seat.now.number (held_view old) c.args.frame.now c.brokers.ensures.topology (sym (c.if-not-fits.ensures {u = tt})) host))
+    ∙ ap (λ (v : View). v.joins) seen_here ∙ c.requires.joined p l is)

@@ -7,6 +7,7 @@ use Rattle.gr_model.specs.Broker.{Outcome}
 use Rattle.gr_model.specs.Opening.{reopened_line}
 use Rattle.gr_broker_relay.specs.Held.{held_view}
 use Rattle.gr_broker.proofs.Fresh.{nobody, somebody, fresh_here, fresh_kept, started_alone, lines_alone, learns_nothing, started_with, lines_with}
+use Rattle.gr_broker.proofs.Joined.{log_late}
 use Rattle.gr_broker.proofs.starting.held_over.Goals as goal
 
 pub returns-then-is_empty-clause-started : goal.returns-then-is_empty-clause-started
@@ -14,8 +15,9 @@ returns-then-is_empty-clause-started c =
     let s = c.args.site.now in
     let held = held_view c.in_ok-held.held in
     let alone = nobody s.here.now _ c.requires.site.here ((Decides-eqb (length s.here.now) 0).0 (sym c.is_empty.ensures ∙ c.if-is_empty.true)) in
-    let fresh = fresh_here s.topo.now s.publisher s.broker c.requires.here c.args.log c.in_ok-know.know.runs held c.in_ok-held.ensures.view c.in_ok-know.ensures.known in
-    started_alone s.topo.now s.publisher s.broker c.requires.here c.args.log c.requires.lane c.requires.whole c.requires.late held alone fresh c.in_ok-held.held.log c.in_ok-held.ensures.log
+    let fresh = fresh_here s.topo.now s.publisher s.broker c.requires.here c.args.log c.in_ok-know.know.runs c.share-joins.result held c.in_ok-held.ensures.view c.in_ok-know.ensures.known (c.share-joins.ensures ∙ c.joins.ensures) in
+    let lates = log_late s.topo.now c.args.log.late c.args.log.records c.requires.late c.is_broken.ensures.follow in
+    started_alone s.topo.now s.publisher s.broker c.requires.here c.args.log c.requires.lane c.requires.whole c.requires.late held alone fresh lates c.in_ok-held.held.log c.in_ok-held.ensures.log
 
 pub returns-then-is_empty-clause-lines : goal.returns-then-is_empty-clause-lines
 returns-then-is_empty-clause-lines c =
@@ -28,15 +30,15 @@ pub learn-requires-clause-kept : goal.learn-requires-clause-kept
 learn-requires-clause-kept c =
     let s = c.args.site.now in
     let held = held_view c.in_ok-held.held in
-    let fresh = fresh_here s.topo.now s.publisher s.broker c.requires.here c.args.log c.in_ok-know.know.runs held c.in_ok-held.ensures.view c.in_ok-know.ensures.known in
-    fresh_kept s.topo.now s.publisher s.broker c.requires.here c.args.log held fresh
+    let fresh = fresh_here s.topo.now s.publisher s.broker c.requires.here c.args.log c.in_ok-know.know.runs c.share-joins.result held c.in_ok-held.ensures.view c.in_ok-know.ensures.known (c.share-joins.ensures ∙ c.joins.ensures) in
+    fresh_kept s.topo.now s.publisher s.broker c.requires.here c.args.log held fresh (log_late s.topo.now c.args.log.late c.args.log.records c.requires.late c.is_broken.ensures.follow)
 
 pub returns-clause-started : goal.returns-clause-started
 returns-clause-started c =
     let s = c.args.site.now in
     let held = held_view c.in_ok-held.held in
     let some = somebody s.here.now _ c.requires.site.here (λ e. false≢true (sym c.if-is_empty.false ∙ c.is_empty.ensures ∙ (Decides-eqb (length s.here.now) 0).1 e)) in
-    let fresh = fresh_here s.topo.now s.publisher s.broker c.requires.here c.args.log c.in_ok-know.know.runs held c.in_ok-held.ensures.view c.in_ok-know.ensures.known in
+    let fresh = fresh_here s.topo.now s.publisher s.broker c.requires.here c.args.log c.in_ok-know.know.runs c.share-joins.result held c.in_ok-held.ensures.view c.in_ok-know.ensures.known (c.share-joins.ensures ∙ c.joins.ensures) in
     let same = learns_nothing s.topo.now s.publisher s.broker c.requires.here c.args.log c.new.result held c.new.ensures fresh in
     started_with s.topo.now s.publisher s.broker c.requires.here c.args.log c.requires.lane c.requires.whole c.requires.late (held_view c.learn-2.new.held) some
     (c.in_ok-learn.ensures.view (log_of c.args.log.records) ∙ ap (λ (o : Outcome). o.view) same) c.in_ok-learn.ensures.kept c.learn-2.new.held.log (c.in_ok-learn.ensures.log ∙ c.in_ok-held.ensures.log)
@@ -46,7 +48,7 @@ returns-clause-lines c =
     let s = c.args.site.now in
     let held = held_view c.in_ok-held.held in
     let some = somebody s.here.now _ c.requires.site.here (λ e. false≢true (sym c.if-is_empty.false ∙ c.is_empty.ensures ∙ (Decides-eqb (length s.here.now) 0).1 e)) in
-    let fresh = fresh_here s.topo.now s.publisher s.broker c.requires.here c.args.log c.in_ok-know.know.runs held c.in_ok-held.ensures.view c.in_ok-know.ensures.known in
+    let fresh = fresh_here s.topo.now s.publisher s.broker c.requires.here c.args.log c.in_ok-know.know.runs c.share-joins.result held c.in_ok-held.ensures.view c.in_ok-know.ensures.known (c.share-joins.ensures ∙ c.joins.ensures) in
     let same = learns_nothing s.topo.now s.publisher s.broker c.requires.here c.args.log c.new.result held c.new.ensures fresh in
     let told = c.in_ok-learn.ensures.told (log_of c.args.log.records) in
     let line = reopened_line (log_of c.args.log.records) s.publisher in

@@ -19,6 +19,7 @@ use Rattle.gr_broker.specs.Told.{log_answer}
 use Rattle.gr_broker.specs.Hosted.{wake_at, AppendsTwice, WakeLeaves}
 use Rattle.gr_broker.specs.Keeps.{UsesLane}
 use Rattle.gr_broker.specs.Parts.{PartView, part_of, part_in, part_wake, part_mark_logs, part_cut_logs, part_marked, part_woken, part_failed}
+use Rattle.gr_broker.proofs.Joined.{Beside}
 use Rattle.gr_broker.proofs.Woken.{moved, seen_part, seen_put, log_seen, broker_leaves, broker_fits, broker_stands, ok_of, on_ok_of, reopen_of, twice_at}
 use Rattle.gr_broker.proofs.waking.wake.Given.{Over}
 use Rattle.gr_broker.proofs.waking.wake.Goals as goal
@@ -46,6 +47,9 @@ wake_part-answer-requires-clause-lanes g c = back g c (λ t q n y. (l : LogView)
 
 pub wake_part-answer-requires-clause-late : goal.wake_part-answer-requires-clause-late
 wake_part-answer-requires-clause-late g c = back g c (λ t q n y. (l : LogView) → y.log ≡ Some l → l.late ≡ t.late) (c.requires.fits.late c.args.p)
+
+pub wake_part-answer-requires-clause-joined : goal.wake_part-answer-requires-clause-joined
+wake_part-answer-requires-clause-joined g c = back g c (λ t q n y. Beside y.view y.log) (c.requires.fits.joined c.args.p)
 
 pub wake_part-answer-requires-clause-stands : goal.wake_part-answer-requires-clause-stands
 wake_part-answer-requires-clause-stands g c = λ tells.
@@ -91,7 +95,8 @@ returns-clause-fits g c =
     (there g c (λ t q n y a. IsKept (net_of t) q n (held_view c.wake_part-answer.new.part)) c.wake_part-answer.ensures.kept)
     (there g c (λ t q n y a. is_some c.wake_part-answer.new.part.log ≡ is_some y.log) c.wake_part-answer.ensures.hosted)
     (there g c (λ t q n y a. (l : LogView) → c.wake_part-answer.new.part.log ≡ Some l → l.lane ≡ 2 * q) c.wake_part-answer.ensures.lanes)
-    (there g c (λ t q n y a. (l : LogView) → c.wake_part-answer.new.part.log ≡ Some l → l.late ≡ t.late) c.wake_part-answer.ensures.late))
+    (there g c (λ t q n y a. (l : LogView) → c.wake_part-answer.new.part.log ≡ Some l → l.late ≡ t.late) c.wake_part-answer.ensures.late)
+    c.wake_part-answer.ensures.joined)
 
 pub returns-clause-lane : goal.returns-clause-lane
 returns-clause-lane g c = λ tells.

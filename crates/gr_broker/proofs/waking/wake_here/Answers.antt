@@ -3,9 +3,10 @@ use Rattle.std.proofs.Common.{◌≡◌, ℕ, ◌*◌, Some, sym, ap, ◌∙◌,
 use Rattle.gr_publog.specs.Crash.{LogView}
 use Rattle.gr_publog.specs.Calls.{IsReady}
 use Rattle.gr_broker_relay.specs.Held.{held_view}
+use Rattle.gr_broker.specs.Seen.{HasJoins}
 use Rattle.gr_broker.specs.Keeps.{UsesLane}
 use Rattle.gr_broker.specs.Parts.{part_of, part_with}
-use Rattle.gr_broker.proofs.Woken.{some_is, here_leaves, here_log, here_lane, here_late, here_told, here_twice, here_reopen}
+use Rattle.gr_broker.proofs.Woken.{some_is, here_leaves, here_log, here_lane, here_late, here_joined, here_told, here_twice, here_reopen}
 use Rattle.gr_broker.proofs.waking.wake_here.Given.{Over}
 use Rattle.gr_broker.proofs.waking.wake_here.Goals as goal
 
@@ -53,6 +54,13 @@ returns-clause-late g c = λ l e.
     ∙ here_late s.topo.now s.publisher s.broker c.args.now (held_view c.args.part.now) (held_view c.wake_host-answer.new.held) c.in-Some.log c.wake_host-answer.new.log
     c.wake_host-answer.result c.wake_host-answer.ensures.leaves
     ∙ c.requires.late c.in-Some.log (log_is g c)
+
+pub returns-clause-joined : goal.returns-clause-joined
+returns-clause-joined g c = λ l e.
+    let s = c.args.site.now in
+    subst (λ (y : LogView). HasJoins (held_view c.wake_host-answer.new.held) y) (some_is e)
+    (here_joined s.topo.now s.publisher s.broker c.args.now (held_view c.args.part.now) (held_view c.wake_host-answer.new.held) c.in-Some.log c.wake_host-answer.new.log
+    c.wake_host-answer.result c.wake_host-answer.ensures.leaves (c.requires.joined c.in-Some.log (log_is g c)))
 
 pub returns-clause-lane : goal.returns-clause-lane
 returns-clause-lane g c = λ tells l e.

@@ -33,6 +33,13 @@ returns-in-Ok-clause-lane g c = λ tells l e.
     let none : c.args.part.now.log ≡ None = no_log c.args.part.now.log (c.requires.hosted ∙ below) in
     absurd (no_some none e)
 
+pub returns-in-Ok-clause-joined : goal.returns-in-Ok-clause-joined
+returns-in-Ok-clause-joined g c = λ l e.
+    let s = c.args.site.now in
+    let below : is_host (net_of s.topo.now) s.publisher s.broker ≡ false = sym (ap (λ x. x.host) c.requires.site.branch) ∙ c.if-site.false in
+    let none : c.args.part.now.log ≡ None = no_log c.args.part.now.log (c.requires.hosted ∙ below) in
+    absurd (no_some none (sym c.wake_below.ensures.log ∙ e))
+
 pub returns-in-Ok-clause-reopen : goal.returns-in-Ok-clause-reopen
 returns-in-Ok-clause-reopen g c =
     let s = c.args.site.now in
@@ -52,6 +59,13 @@ returns-in-Err-clause-lane g c = λ tells l e.
     let below : is_host (net_of s.topo.now) s.publisher s.broker ≡ false = sym (ap (λ x. x.host) c.requires.site.branch) ∙ c.if-site.false in
     let none : c.args.part.now.log ≡ None = no_log c.args.part.now.log (c.requires.hosted ∙ below) in
     absurd (no_some none e)
+
+pub returns-in-Err-clause-joined : goal.returns-in-Err-clause-joined
+returns-in-Err-clause-joined g c = λ l e.
+    let s = c.args.site.now in
+    let below : is_host (net_of s.topo.now) s.publisher s.broker ≡ false = sym (ap (λ x. x.host) c.requires.site.branch) ∙ c.if-site.false in
+    let none : c.args.part.now.log ≡ None = no_log c.args.part.now.log (c.requires.hosted ∙ below) in
+    absurd (no_some none (sym c.wake_below.ensures.log ∙ e))
 
 pub returns-in-Err-clause-reopen : goal.returns-in-Err-clause-reopen
 returns-in-Err-clause-reopen g c =
