@@ -2,6 +2,7 @@ pub mod Along
 pub mod Shown
 pub mod Readable
 pub mod Passing
+pub mod Between
 pub mod Fronts
 pub mod Names
 pub mod Named

@@ -3,14 +3,14 @@ use Rattle.std.proofs.Common.{◌<◌, ℕ, Bool, true, false, ◌&&◌, List, [
 use Rattle.std.specs.Prelude.{nat_lt, if◌then◌else◌, flat_map}
 use Rattle.gr_model.specs.declared.report.Report.{Report}
 use Rattle.gr_model.specs.declared.report.Report.TheVariants as line
-use Rattle.gr_model.specs.Net.{Net, is_host, not_empty}
+use Rattle.gr_model.specs.Net.{Net, is_host, not_empty, wants_with}
 use Rattle.gr_model.specs.NetOf.{IsOrderly}
-use Rattle.gr_model.specs.Broker.{Log, View, Outcome, learn, started}
+use Rattle.gr_model.specs.Broker.{Log, View, Outcome, learn, seen, started}
 use Rattle.gr_model.specs.Opening.{reopened_line}
 use Rattle.gr_model_calls.proofs.asks.AskMoments.{Each-on}
 use Rattle.gr_model_calls.proofs.runs.Worlds.{Each}
 use Rattle.gr_broker.specs.Opened.{opened_at}
-use Rattle.gr_report.proofs.Names.{Names, learn_named}
+use Rattle.gr_report.proofs.Names.{Names, names_with, orderly_with, learn_named}
 
 -- the line of a log that is opened
 pub log_named : (net : Net) (N : Report → Type 0) (log : Log) (p : ℕ) → Names net N → p < net.publishers → Each N (reopened_line log p)
@@ -29,13 +29,13 @@ start_named net N p b log k o j = go (is_host net p b && not_empty (net.subscrib
     v = started net p b log
 
     told : Outcome
-    told = learn net p b [] v log
+    told = learn (seen net v) p b [] v log
 
     go : (c d : Bool) → Each N (let x : Outcome = elim c [
       | true ↦ record { view = told.view; log = log; lines = reopened_line log p ++ told.lines; frames = told.frames }
       | false ↦ record { view = v; log = log; lines = if d then reopened_line log p else []; frames = [] }
     ] in x.lines)
-    go true d = Each-on N (reopened_line log p) told.lines (log_named net N log p k j) (learn_named net N p b [] v log k o j)
+    go true d = Each-on N (reopened_line log p) told.lines (log_named net N log p k j) (learn_named (seen net v) N p b [] v log (names_with net (wants_with net v.joins) N k) (orderly_with net (wants_with net v.joins) o) j)
     go false true = log_named net N log p k j
     go false false = tt
 

@@ -4,7 +4,7 @@ use Rattle.std.proofs.Math.Seq.{set-append_seam}
 use Rattle.std.proofs.lemmas.List.{append_assoc}
 use Rattle.gr_topo.specs.Topology.{TopologyView}
 use Rattle.gr_model.specs.declared.report.Report.{Report}
-use Rattle.gr_model.specs.declared.report.Report.TheVariants.{Opened, Logged, Already, Gap, Exhausted, Kept, Lost, Mark, Cut, Got, Horizon, Ordered, SentKnow, SentWant, SentExpect, Crashed, Swept, RefusedHosts, RefusedFrame, RefusedClock, DroppedNotFrame, DroppedStray, DroppedClash, DroppedBadNote, DroppedStrayNote, Damaged, Frames, LogOf, Doubt, BytesOf}
+use Rattle.gr_model.specs.declared.report.Report.TheVariants.{Opened, Logged, Already, Gap, Exhausted, Joined, AlreadyJoined, ExhaustedJoin, Kept, Lost, Mark, Cut, Got, Horizon, Ordered, SentKnow, SentWant, SentExpect, Crashed, Swept, RefusedHosts, RefusedFrame, RefusedClock, DroppedNotFrame, DroppedStray, DroppedSplit, DroppedClash, DroppedBadNote, DroppedStrayNote, Damaged, Frames, LogOf, Doubt, BytesOf}
 use Rattle.gr_model.specs.Text.{labels_of, row_of, whole_line}
 
 -- a row with the line's end is a blank and the line
@@ -14,6 +14,9 @@ line_in_row t (Logged publisher number tick) = refl
 line_in_row t (Already publisher number) = refl
 line_in_row t (Gap publisher number next) = refl
 line_in_row t (Exhausted publisher number) = refl
+line_in_row t (Joined subscriber publisher tick) = refl
+line_in_row t (AlreadyJoined subscriber publisher) = refl
+line_in_row t (ExhaustedJoin subscriber publisher) = refl
 line_in_row t (Kept publisher number tick) = refl
 line_in_row t (Lost publisher number tick) = refl
 line_in_row t (Mark publisher tick) = refl
@@ -31,6 +34,7 @@ line_in_row t (RefusedFrame line frame sent) = refl
 line_in_row t (RefusedClock line moment) = refl
 line_in_row t (DroppedNotFrame broker fault at) = refl
 line_in_row t (DroppedStray broker from to publisher) = refl
+line_in_row t (DroppedSplit broker at kept came) = refl
 line_in_row t (DroppedClash broker tick kept came) = refl
 line_in_row t (DroppedBadNote broker fault at) = refl
 line_in_row t (DroppedStrayNote broker publisher) = refl

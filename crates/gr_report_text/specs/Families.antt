@@ -2,12 +2,15 @@
 use Rattle.gr_model.specs.declared.report.Report.{Report}
 use Rattle.gr_model.specs.declared.report.Report.TheVariants as line
 
--- a line that says what became of a publish
+-- a line that says what became of a publish or of a join
 abbrev pub IsOfPublish : Report → Type 0
 IsOfPublish (line.Logged publisher number tick) = Unit {0}
 IsOfPublish (line.Already publisher number) = Unit {0}
 IsOfPublish (line.Gap publisher number next) = Unit {0}
 IsOfPublish (line.Exhausted publisher number) = Unit {0}
+IsOfPublish (line.Joined subscriber publisher tick) = Unit {0}
+IsOfPublish (line.AlreadyJoined subscriber publisher) = Unit {0}
+IsOfPublish (line.ExhaustedJoin subscriber publisher) = Unit {0}
 IsOfPublish (line.Kept publisher number tick) = Unit {0}
 IsOfPublish (line.Lost publisher number tick) = Unit {0}
 IsOfPublish _ = ⊥
@@ -39,6 +42,7 @@ IsOfFrame _ = ⊥
 abbrev pub IsOfDrop : Report → Type 0
 IsOfDrop (line.DroppedNotFrame broker fault at) = Unit {0}
 IsOfDrop (line.DroppedStray broker from to publisher) = Unit {0}
+IsOfDrop (line.DroppedSplit broker at kept came) = Unit {0}
 IsOfDrop (line.DroppedClash broker tick kept came) = Unit {0}
 IsOfDrop (line.DroppedBadNote broker fault at) = Unit {0}
 IsOfDrop (line.DroppedStrayNote broker publisher) = Unit {0}

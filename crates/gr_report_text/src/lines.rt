@@ -12,7 +12,7 @@ ghost use Rattle.gr_report_text.specs.Families.{IsOfPublish, IsOfLog, IsOfHorizo
 
 use crate::words::{push_event, push_hex, push_name, push_number, push_word};
 use gr_curio::Q3;
-use gr_event::{Bytes, Event, Joins, Text};
+use gr_event::{Bytes, Event, Join, Joins, Text};
 use gr_frame::FrameKind;
 use gr_know::K;
 use gr_model::Report;
@@ -184,18 +184,38 @@ fn push_handed(
     push_event(words, event)
 }
 
-/// The line of a horizon that moved.
-fn push_horizon(
+/// A line of a subscriber and a publisher. The first word comes with the blank before it.
+fn push_named_both(
     words: &mut Text,
     topo: &Topology,
+    first: &[u8],
+    subscriber: u16,
+    publisher: u16,
+) -> Result<(), AllocError>
+    requires { AreNamed topo.now subscriber publisher }
+    ensures { OnOk result (words.new ≡ words.old ++ (first.now ++ behind_blanks
+        (name_at topo.now.subscribers subscriber ∷ name_at topo.now.publishers publisher ∷ []))) }
+{
+    words.append(first)?;
+    push_subscriber(words, topo, subscriber)?;
+    push_publisher(words, topo, publisher)
+}
+
+/// A line of a subscriber, a publisher and a tick. The first word comes with the blank before it.
+#[inline(always)]
+fn push_named_tick(
+    words: &mut Text,
+    topo: &Topology,
+    first: &[u8],
     subscriber: u16,
     publisher: u16,
     tick: u64,
 ) -> Result<(), AllocError>
     requires { AreNamed topo.now subscriber publisher }
-    ensures { OnOk result (words.new ≡ words.old ++ row_of topo.now (Report.Horizon subscriber publisher tick)) }
+    ensures { OnOk result (words.new ≡ words.old ++ (first.now ++ behind_blanks
+        (name_at topo.now.subscribers subscriber ∷ name_at topo.now.publishers publisher ∷ decimal tick ∷ []))) }
 {
-    words.append(b" horizon")?;
+    words.append(first)?;
     push_subscriber(words, topo, subscriber)?;
     push_publisher(words, topo, publisher)?;
     push_number(words, tick)
@@ -505,19 +525,48 @@ fn push_stray_note(
     push_number(words, publisher as u64)
 }
 
-/// The line of a frame that does not fit.
-fn push_stray(
+/// The line of a dropped datagram that goes on with numbers.
+fn push_dropped_numbers(
     words: &mut Text,
     topo: &Topology,
     broker: u16,
-    head: &[u64],
+    cause: &[u8],
+    numbers: &[u64],
 ) -> Result<(), AllocError>
     requires { broker < length topo.now.brokers }
     ensures { OnOk result (words.new ≡ words.old ++ behind_blanks
-        (codes "dropped" ∷ (labels_of topo.now).broker broker ∷ codes "stray" ∷ map decimal head.now)) }
+        (codes "dropped" ∷ (labels_of topo.now).broker broker ∷ cause.now ∷ map decimal numbers.now)) }
 {
-    push_dropped(words, topo, broker, b"stray")?;
-    push_numbers(words, head)
+    push_dropped(words, topo, broker, cause)?;
+    push_numbers(words, numbers)
+}
+
+/// The line of a frame whose joins split from those that are held.
+fn push_split(
+    words: &mut Text,
+    topo: &Topology,
+    broker: u16,
+    at: u16,
+    kept: &Join,
+    came: &Join,
+) -> Result<(), AllocError>
+    requires { broker < length topo.now.brokers }
+    ensures { OnOk result
+        (words.new ≡ words.old ++ row_of topo.now (Report.DroppedSplit broker at kept.now came.now)) }
+{
+    push_dropped_numbers(
+        words,
+        topo,
+        broker,
+        b"split",
+        &[
+            at as u64,
+            kept.subscriber as u64,
+            kept.tick,
+            came.subscriber as u64,
+            came.tick,
+        ],
+    )
 }
 
 /// The line of a frame that clashes.
@@ -548,7 +597,7 @@ fn push_bytes(words: &mut Text, frame: u64, bytes: &Bytes) -> Result<(), AllocEr
     push_hex(words, bytes.as_slice())
 }
 
-/// The line of what became of a publish.
+/// The line of what became of a publish or of a join.
 fn push_publish(words: &mut Text, report: &Report, topo: &Topology) -> Result<(), AllocError>
     requires family { IsOfPublish report.now }
     requires named { IsNamed topo.now report.now }
@@ -579,6 +628,19 @@ fn push_publish(words: &mut Text, report: &Report, topo: &Topology) -> Result<()
             *publisher,
             &[*number],
         ),
+        Report::Joined {
+            subscriber,
+            publisher,
+            tick,
+        } => push_named_tick(words, topo, b" joined", *subscriber, *publisher, *tick),
+        Report::AlreadyJoined {
+            subscriber,
+            publisher,
+        } => push_named_both(words, topo, b" already-joined", *subscriber, *publisher),
+        Report::ExhaustedJoin {
+            subscriber,
+            publisher,
+        } => push_named_both(words, topo, b" exhausted-join", *subscriber, *publisher),
         Report::Kept {
             publisher,
             number,
@@ -648,7 +710,7 @@ fn push_heard(words: &mut Text, report: &Report, topo: &Topology) -> Result<(), 
             subscriber,
             publisher,
             tick,
-        } => push_horizon(words, topo, *subscriber, *publisher, *tick),
+        } => push_named_tick(words, topo, b" horizon", *subscriber, *publisher, *tick),
         Report::Ordered {
             subscriber,
             publisher,
@@ -723,12 +785,19 @@ fn push_drop(words: &mut Text, report: &Report, topo: &Topology) -> Result<(), A
             from,
             to,
             publisher,
-        } => push_stray(
+        } => push_dropped_numbers(
             words,
             topo,
             *broker,
+            b"stray",
             &[*from as u64, *to as u64, *publisher as u64],
         ),
+        Report::DroppedSplit {
+            broker,
+            at,
+            kept,
+            came,
+        } => push_split(words, topo, *broker, *at, kept, came),
         Report::DroppedClash {
             broker,
             tick,
@@ -775,6 +844,9 @@ pub(crate) fn push_line(
         | Report::Already { .. }
         | Report::Gap { .. }
         | Report::Exhausted { .. }
+        | Report::Joined { .. }
+        | Report::AlreadyJoined { .. }
+        | Report::ExhaustedJoin { .. }
         | Report::Kept { .. }
         | Report::Lost { .. } => push_publish(words, report, topo),
         Report::Opened { .. } | Report::Mark { .. } | Report::Cut { .. } | Report::Damaged { .. } =>
@@ -788,6 +860,7 @@ pub(crate) fn push_line(
         }
         Report::DroppedNotFrame { .. }
         | Report::DroppedStray { .. }
+        | Report::DroppedSplit { .. }
         | Report::DroppedClash { .. }
         | Report::DroppedBadNote { .. }
         | Report::DroppedStrayNote { .. } => push_drop(words, report, topo),
