@@ -51,7 +51,3 @@ step_line (step.BadWord line) = codes "step 1 bad-word line " ++ decimal line
 step_line (step.BadNumber line) = codes "step 2 bad-number line " ++ decimal line
 step_line (step.BadEvent line why) = codes "step 3 bad-event line " ++ (decimal line ++ (codes " " ++ event_word why))
 step_line (step.TooMany line) = []
-
--- the line of a topology that no run takes yet
-abbrev pub not_built_line : List ℕ
-not_built_line = codes "topology 0 not-built"

@@ -7,18 +7,17 @@ use Rattle.gr_sched.specs.Text.{pieces_of, before_separator, after_separator, co
 use Rattle.gr_sched.specs.Grammar.{steps_of}
 use Rattle.gr_topo.specs.declared.fault.TopoFault.{TopoFault}
 use Rattle.gr_topo.specs.Read.{topology_text}
-use Rattle.gr_topo.specs.Topology.{TopologyView, naming_of, not_empty}
+use Rattle.gr_topo.specs.Topology.{TopologyView, naming_of}
 use Rattle.gr_scenario.specs.declared.asked.Asked.{Asked}
 use Rattle.gr_scenario.specs.declared.asked.Asked.TheVariants.{TooManyBytes, TooManySteps, Refused, Scenario}
-use Rattle.gr_scenario.specs.Refusals.{topology_line, step_line, not_built_line}
+use Rattle.gr_scenario.specs.Refusals.{topology_line, step_line}
 use Rattle.gr_scenario.specs.Steps.{AreStepsOf}
 
 -- What is asked
 
--- the steps that were read with the names of a topology, or their first fault. Where all is well, a topology with late
--- subscribers is not built yet; without one no step is a join
+-- the steps that were read with the names of a topology, or their first fault
 abbrev pub asked_of_steps : TopologyView → Result (List Line) StepFault → Asked
-asked_of_steps t (Ok lines) = if not_empty t.late then Refused not_built_line else Scenario t lines
+asked_of_steps t (Ok lines) = Scenario t lines
 asked_of_steps t (Err why) = Refused (step_line why)
 
 -- the topology that was read and then the steps, or the first refusal

@@ -1,25 +1,21 @@
 //! Reading what the bytes of a source ask.
 
 ghost use Rattle.std.specs.Prelude.{◌≡◌, ◌≤◌, nat_lt, if◌then◌else◌, length, IfOk, IfErr};
-ghost use Rattle.std.specs.List.{All};
 ghost use Rattle.gr_sched.specs.declared.step.TheConstants.{MAX_INPUT_BYTES, MAX_STEPS};
-ghost use Rattle.gr_sched.specs.Ranges.{IsStep};
 ghost use Rattle.gr_sched.specs.Text.{counted_lines};
 ghost use Rattle.gr_topo.specs.Read.{topology_text};
-ghost use Rattle.gr_topo.specs.Topology.{naming_of};
 ghost use Rattle.gr_scenario.specs.declared.asked.Asked.TheVariants.{TooManySteps};
-ghost use Rattle.gr_scenario.specs.Scenario.{asked_of_steps, asked_of_parts, asked_by, IsScenario, IsTooLarge};
+ghost use Rattle.gr_scenario.specs.Scenario.{asked_of_parts, asked_by, IsScenario, IsTooLarge};
 
 use crate::asked::Asked;
 use crate::law::steps_that_are_read;
-use crate::refusals::{line_of_not_built, line_of_step, line_of_topology};
-use gr_sched::{MAX_INPUT_BYTES, MAX_STEPS, Steps, count, parse, split};
+use crate::refusals::{line_of_step, line_of_topology};
+use gr_sched::{MAX_INPUT_BYTES, MAX_STEPS, count, parse, split};
 use gr_topo::Topology;
 use std::alloc::{AllocError, Global};
 
 /// Reads the bytes of a source. That there are too many bytes comes first, then that there are too many steps, then
-/// what is wrong with the topology, and then what is wrong with a step; last, that no run takes late subscribers yet.
-/// Want of memory hides neither size.
+/// what is wrong with the topology, and then what is wrong with a step. Want of memory hides neither size.
 pub fn read(alloc: Global, bytes: &[u8]) -> Result<Asked, AllocError>
     ensures asked { IfOk result (λ asked. asked ≡ asked_by bytes.now) }
     ensures ready { IfOk result IsScenario }
@@ -55,20 +51,6 @@ fn read_parts(alloc: Global, front: &[u8], back: &[u8]) -> Result<Asked, AllocEr
     }
 }
 
-/// What steps that were read with the names of a topology ask: no run takes late subscribers yet.
-fn built(alloc: Global, topology: Topology, steps: Steps) -> Result<Asked, AllocError>
-    requires { All (λ line. IsStep (naming_of topology) line.step) steps }
-    ensures asked { IfOk result (λ asked. asked ≡ asked_of_steps topology (Ok steps)) }
-    ensures ready { IfOk result IsScenario }
-{
-    if topology.has_late() {
-        return Ok(Asked::Refused(line_of_not_built(alloc)?));
-    }
-    // Proof only: the steps that are read are steps of the topology.
-    steps_that_are_read();
-    Ok(Asked::Scenario { topology, steps })
-}
-
 /// Reads the steps with the names of a topology.
 fn read_steps(alloc: Global, topology: Topology, back: &[u8]) -> Result<Asked, AllocError>
     requires { length back.now ≤ MAX_INPUT_BYTES }
@@ -78,7 +60,11 @@ fn read_steps(alloc: Global, topology: Topology, back: &[u8]) -> Result<Asked, A
     ensures few { IfErr result (λ refused. length (counted_lines back.now) ≤ MAX_STEPS) }
 {
     match parse(alloc, back, &topology) {
-        Ok(steps) => built(alloc, topology, steps),
+        Ok(steps) => {
+            // Proof only: the steps that are read are steps of the topology.
+            steps_that_are_read();
+            Ok(Asked::Scenario { topology, steps })
+        }
         Err(_) if has_too_many_steps(back) => Ok(Asked::TooManySteps),
         Err(fault) => Ok(Asked::Refused(line_of_step(alloc, fault)?)),
     }

@@ -2,7 +2,6 @@
 
 ghost use Rattle.std.specs.Prelude.{◌≡◌, ◌≢◌, ℕ, ◌++◌, IfOk, OnOk, string_bytes};
 ghost use Rattle.gr_scenario.specs.Refusals.{shown_byte, shown, filter_fault, refused_thing, topology_line, step_line};
-ghost use Rattle.gr_scenario.specs.Refusals.{not_built_line};
 
 use gr_event::Text;
 use gr_filter::FilterFault;
@@ -72,13 +71,6 @@ fn shown_byte(byte: u8) -> u8
     ensures { result ≡ shown_byte byte }
 {
     if byte.is_ascii_graphic() { byte } else { b'?' }
-}
-
-/// The line of a topology that no run takes yet.
-pub fn line_of_not_built(alloc: Global) -> Result<Text, AllocError>
-    ensures { IfOk result (λ text. text ≡ not_built_line) }
-{
-    Text::from_slice(alloc, b"topology 0 not-built")
 }
 
 /// The line of a step's fault, as `step 1 bad-word line 7`. Want of memory has none, and that there are too many steps
