@@ -1,6 +1,6 @@
 -- A broker's call is taken up: the world with the broker that the call leaves, and with the frames that it sends, is the
 -- machine's world with the outcome absorbed, since what is kept of one publisher and one log alone have changed
-use Rattle.std.proofs.Common.{◌≡◌, ◌≢◌, ◌⊎◌, inl, inr, ℕ, suc, ◌+◌, ◌<◌, List, [], ◌++◌, length, map, get_or, set, Result, Ok, Err, OnOk, sym, ap, ◌∙◌, subst, arith}
+use Rattle.std.proofs.Common.{◌≡◌, ◌≢◌, ◌⊎◌, inl, inr, ℕ, suc, ◌<◌, List, [], ◌++◌, length, map, get_or, set, Result, Ok, Err, OnOk, sym, ap, ◌∙◌, subst, arith}
 use Rattle.std.proofs.lemmas.List.{map-append, map-set, get_or-map, get_or-set_same, get_or-set_other, length-map, length-set, ext_get_or}
 use Rattle.std.proofs.lemmas.Bool.{cases_eq}
 use Rattle.gr_frame.specs.declared.Frame.{Frame}

@@ -10,7 +10,6 @@ use Rattle.gr_out.specs.Lane.{Lane, content, has_stopped, with_stop, stop_at, cr
 use Rattle.gr_publog.specs.declared.record.Record.{Record}
 use Rattle.gr_publog.specs.declared.record.Record.TheVariants as entry
 use Rattle.gr_publog.specs.declared.record.State.{State}
-use Rattle.gr_publog.specs.declared.record.LogFault.TheVariants as log_fault
 use Rattle.gr_publog.specs.Text.{IsSpelled, log_text}
 use Rattle.gr_publog.specs.Crash.{LogView, Stands}
 use Rattle.gr_publog.specs.Kept.{records_kept}

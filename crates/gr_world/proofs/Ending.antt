@@ -1,19 +1,17 @@
 -- How a wake or a sweep ends at a log: what was done for those before, one after another, and how the last one ended
-use Rattle.std.proofs.Common.{◌≡◌, ◌⊎◌, inl, inr, ℕ, zero, suc, ◌+◌, ◌-◌, ◌<◌, List, [], ◌∷◌, ◌++◌, length, get_or, take, drop, Result, Ok, Err, refl, sym, ap, ap₂, ◌∙◌, subst, arith, add-one}
+use Rattle.std.proofs.Common.{◌≡◌, inr, ℕ, zero, suc, ◌+◌, ◌-◌, ◌<◌, List, [], ◌∷◌, ◌++◌, length, get_or, take, drop, Result, Ok, Err, refl, sym, ap, ap₂, ◌∙◌, subst, arith, add-one}
 use Rattle.gr_topo.specs.Topology.{TopologyView}
 use Rattle.gr_model.specs.declared.report.Report.{Report}
 use Rattle.gr_model.specs.Net.{Net, numbers_from}
 use Rattle.gr_model.specs.NetOf.{net_of}
-use Rattle.gr_model.specs.World.{World, Transition, in_turn, wake_up, hand_down, followed_by, inwards, outwards, sweep_for}
+use Rattle.gr_model.specs.World.{World, Transition, in_turn, wake_up, hand_down, inwards, outwards}
 use Rattle.gr_world.specs.declared.fault.WorldFault.{WorldFault}
 use Rattle.gr_world.specs.declared.fault.WorldFault.TheVariants as fault
 use Rattle.gr_world.specs.Seen.{WorldView, net_in, world_of}
 use Rattle.gr_world.specs.Steps.{Does}
 use Rattle.gr_world.specs.Ran.{Keeps, noted_in}
-use Rattle.gr_world.specs.Sweeps.{Joins, Delivers, handed}
-use Rattle.gr_world.specs.Ended.{IsEnd, WakeEnds, EndsAt, WakesEnd, EndsHanded, PhasesEnd, SweepEnds}
-use Rattle.gr_world.proofs.Composed.{keeps_none}
-use Rattle.gr_world.proofs.Joining.{does_same}
+use Rattle.gr_world.specs.Sweeps.{Joins, Delivers}
+use Rattle.gr_world.specs.Ended.{IsEnd, WakeEnds, EndsAt, WakesEnd, PhasesEnd, SweepEnds}
 
 -- The answer
 

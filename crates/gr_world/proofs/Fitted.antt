@@ -14,11 +14,11 @@ use Rattle.gr_model.specs.Tree.{IsNet}
 use Rattle.gr_model.specs.Broker.{max_tick}
 use Rattle.gr_model.specs.World.{World, next, next_by, run_all, run_from, run_from_by, report_of, report_of_by, start, show, sweep, sweep_moment}
 use Rattle.gr_model_calls.specs.Fits.{StepIn, StepsIn, history_of}
+use Rattle.gr_model_calls.specs.OneNet as one
 use Rattle.gr_model_theorems.specs.Settles.{SweepSettles, AllGot, is_accepted}
-use Rattle.gr_model_theorems.specs.Statements.{world_after}
+use Rattle.gr_model_theorems.specs.Statements.{world_after, joined_net}
 use Rattle.gr_model_theorems.specs.Standing.{Fits as Stands}
-use Rattle.gr_model_theorems.proofs.headline.SettlesAlways.{sweep_settles, sweep_hands_over}
-use Rattle.gr_model_theorems.proofs.headline.Standing.{fits_always}
+use Rattle.gr_model_theorems.proofs.joins.Always.{fits_always, sweep_same, sweep_settles, sweep_hands_over}
 use Rattle.gr_world.specs.declared.fault.WorldFault.{WorldFault}
 use Rattle.gr_world.specs.declared.fault.WorldFault.TheVariants as fault
 use Rattle.gr_world.specs.Seen.{WorldView, net_in, world_of}
@@ -151,9 +151,9 @@ fits_start w lanes fits f sound unspent tree orderly is = record {
 -- What stands of it
 
 -- all that a layer above may use of the world and the history of its steps
-pub stands_of : (w : WorldView) (lanes : ℕ → Lane) (steps : List Line) (told : List (List Report)) → Fits w lanes steps told → Stands (net_in w) (history_of (net_in w) steps) (world_of w)
+pub stands_of : (w : WorldView) (lanes : ℕ → Lane) (steps : List Line) (told : List (List Report)) → Fits w lanes steps told → Stands (joined_net (net_in w) steps) (history_of (net_in w) steps) (world_of w)
 stands_of w lanes steps told f =
-    subst (Stands (net_in w) (history_of (net_in w) steps)) (sym f.reached)
+    subst (Stands (joined_net (net_in w) steps) (history_of (net_in w) steps)) (sym f.reached)
     (fits_always (net_in w) steps f.tree f.orderly.quiet f.orderly.retry f.steps_in)
 
 -- A sweep
@@ -169,10 +169,12 @@ settles_all old new lanes (Err e) makes within steps told f = tt
 settles_all old new lanes (Ok lines) makes within steps told f =
     let net : Net = net_in old in
     let accepted : is_accepted net (world_after net steps) ≡ true = subst (λ (w : World). is_accepted net w ≡ true) f.reached (le-leb (sweep_moment net (world_of old)) max_tick within) in
+    let reaches : (k : ℕ) → sweep net (world_of old) k ≡ record { world = world_of new; lines = lines } = λ k. sym (next_sweep net (world_of old) k) ∙ makes k lines refl in
     record {
-      is = λ k. sym (next_sweep net (world_of old) k) ∙ makes k lines refl;
-      settles = λ k. subst (λ (w : World). SweepSettles net w k) (sym f.reached) (sweep_settles net steps k f.tree f.orderly.quiet f.orderly.retry f.steps_in accepted);
-      all_got = λ k. subst (λ (w : World). AllGot net (history_of net steps) w k) (sym f.reached) (sweep_hands_over net steps k f.tree f.orderly.quiet f.orderly.retry f.steps_in accepted);
+      is = reaches;
+      on_one = λ k. subst (λ (w : World). one.sweep (joined_net net steps) w k ≡ sweep net w k) (sym f.reached) (sym (sweep_same net steps k f.tree f.orderly.quiet f.steps_in)) ∙ reaches k;
+      settles = λ k. subst (λ (w : World). SweepSettles (joined_net net steps) w k) (sym f.reached) (sweep_settles net steps k f.tree f.orderly.quiet f.orderly.retry f.steps_in accepted);
+      all_got = λ k. subst (λ (w : World). AllGot (joined_net net steps) (history_of net steps) w k) (sym f.reached) (sweep_hands_over net steps k f.tree f.orderly.quiet f.orderly.retry f.steps_in accepted);
     }
 
 -- with its moment as the code has it

@@ -8,7 +8,7 @@ use Rattle.gr_curio.specs.Values.{Wanted, wanteds}
 use Rattle.gr_pubend.specs.Log.{Log, empty_log, log_know}
 use Rattle.gr_model.specs.declared.report.Report.{Report}
 use Rattle.gr_model.specs.Net.{Net, is_host, keeps_horizon, not_empty}
-use Rattle.gr_model.specs.Broker.{View, Outcome, all_points, is_consolidated_by, consolidated, finished, kept_view, delivery_lines, new_ticks, passed, forward, still_wanted, forward_wants, learn, started, horizon_after, data_ticks}
+use Rattle.gr_model.specs.Broker.{View, Outcome, all_points, is_consolidated_by, consolidated, finished, kept_view, delivery_lines, new_ticks, passed, forward, still_wanted, forward_wants, learn, seen, started, horizon_after, data_ticks}
 use Rattle.gr_model.specs.Opening.{reopened_line}
 use Rattle.gr_broker.specs.Opened.{opened_at}
 
@@ -16,7 +16,7 @@ module _ (net : Net) (p b : ℕ) (log : Log) where
   abbrev opened_if : Bool → Bool → Outcome
   opened_if here some =
       let v : View = started net p b log in
-      let o : Outcome = learn net p b [] v log in
+      let o : Outcome = learn (seen net v) p b [] v log in
       elim (here && some) [
         | true ↦ record { view = o.view; log = log; lines = reopened_line log p ++ o.lines; frames = o.frames }
         | false ↦ record { view = v; log = log; lines = if here then reopened_line log p else []; frames = [] }
@@ -48,7 +48,7 @@ module _ (net : Net) (p b : ℕ) (log : Log) where
 pub started_below : (net : Net) (p b : ℕ) (log other : Log) → is_host net p b ≡ false → started net p b log ≡ started net p b other
 unfolding started
 started_below net p b log other below =
-    let made : Bool → Log → View = λ here l. record { know = if here then log_know l else []; wants = map (λ _. []) (net.children p b); asks = []; horizon = 0; joins = [] } in
+    let made : Bool → Log → View = λ here l. record { know = if here then log_know l else []; wants = map (λ _. []) (net.children p b); asks = []; horizon = 0; joins = if here then l.joins else [] } in
     ap (λ here. made here log) below ∙ sym (ap (λ here. made here other) below)
 
 -- Over an empty log
@@ -66,7 +66,7 @@ module _ (net : Net) (p b : ℕ) where
   unfolding started log_know
   starts_blank = go (is_host net p b)
     where
-      go : (here : Bool) → ◌≡◌ {A = View} (record { know = if here then log_know empty_log else []; wants = nobody; asks = []; horizon = 0; joins = [] }) blank
+      go : (here : Bool) → ◌≡◌ {A = View} (record { know = if here then log_know empty_log else []; wants = nobody; asks = []; horizon = 0; joins = if here then empty_log.joins else [] }) blank
       go true = refl
       go false = refl
 
@@ -124,12 +124,17 @@ module _ (net : Net) (p b : ℕ) where
       let h = horizon_after (keeps_horizon net p b) 0 [] in
       nothing_told h (data_ticks 0 h []) (net.subscribers_at b) (stays_zero (keeps_horizon net p b))
 
+module _ (net : Net) (p b : ℕ) where
+  -- the net that such a broker's view shows: no one has joined
+  abbrev shown : Net
+  shown = seen net (blank net p b)
+
   -- a start over an empty log is the machine's
   pub fresh_view : (opened_at net p b empty_log).view ≡ started net p b empty_log
   fresh_view = ap (λ (o : Outcome). o.view) (opened_by net p b empty_log (is_host net p b) (not_empty (net.subscribers_at b)) refl refl) ∙ go (is_host net p b) (not_empty (net.subscribers_at b)) refl
     where
       go : (here some : Bool) → is_host net p b ≡ here → (opened_if net p b empty_log here some).view ≡ started net p b empty_log
-      go true true here = ap (λ (v : View). let o : Outcome = learn net p b [] v empty_log in o.view) starts_blank ∙ learned_view here ∙ sym starts_blank
+      go true true here = ap (λ (v : View). let o : Outcome = learn (seen net v) p b [] v empty_log in o.view) (starts_blank net p b) ∙ learned_view shown p b here ∙ sym (starts_blank net p b)
       go true false here = refl
       go false some here = refl
 
@@ -138,6 +143,6 @@ module _ (net : Net) (p b : ℕ) where
   fresh_lines = ap (λ (o : Outcome). o.lines) (opened_by net p b empty_log (is_host net p b) (not_empty (net.subscribers_at b)) refl refl) ∙ go (is_host net p b) (not_empty (net.subscribers_at b))
     where
       go : (here some : Bool) → (opened_if net p b empty_log here some).lines ≡ []
-      go true true = ap (λ (v : View). let o : Outcome = learn net p b [] v empty_log in o.lines) starts_blank ∙ learned_lines
+      go true true = ap (λ (v : View). let o : Outcome = learn (seen net v) p b [] v empty_log in o.lines) (starts_blank net p b) ∙ learned_lines shown p b
       go true false = refl
       go false some = refl

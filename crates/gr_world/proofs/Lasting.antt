@@ -1,5 +1,5 @@
 -- What was sent is true of the log, and whatever a crash leaves of its lane reads as that log
-use Rattle.std.proofs.Common.{◌≡◌, ◌≢◌, ℕ, zero, suc, ◌*◌, ◌<◌, ◌≤◌, List, [], ◌∷◌, length, Option, Some, None, Ok, refl, sym, ap, ◌∙◌, subst}
+use Rattle.std.proofs.Common.{◌≡◌, ◌≢◌, ℕ, zero, suc, ◌*◌, ◌<◌, ◌≤◌, List, [], ◌∷◌, length, Some, None, Ok, refl, sym, ap, ◌∙◌, subst}
 use Rattle.std.specs.Prelude.{slice_get}
 use Rattle.gr_event.specs.declared.event.Event.{Event}
 use Rattle.gr_event.specs.Joins.{Joins}
@@ -18,10 +18,10 @@ use Rattle.gr_topo.specs.Topology.{host_of}
 use Rattle.gr_model.specs.declared.report.Report.{Report}
 use Rattle.gr_model.specs.Net.{Net}
 use Rattle.gr_model.specs.World.{World, log_of, frame_at}
-use Rattle.gr_model_calls.specs.Fits.{FrameTrue, AllFramesTrue, BodyTrue, facts, facts_of, reached_in}
-use Rattle.gr_model_calls.specs.Said.{said_at}
-use Rattle.gr_model_calls.specs.Truth.{Facts, KnowsTruth, IsTrueAt}
-use Rattle.gr_broker.specs.Seen.{BrokerView, log_in, log_said}
+use Rattle.gr_model_calls.specs.Fits.{FrameTrue, AllFramesTrue, BodyTrue, facts_of}
+use Rattle.gr_model_calls.specs.Truth.{Facts, IsTrueAt}
+use Rattle.gr_model_theorems.specs.Statements.{joined_net}
+use Rattle.gr_broker.specs.Seen.{log_said}
 use Rattle.gr_report.proofs.Hosts.{hosted_log}
 use Rattle.gr_world.specs.Seen.{WorldView, broker_in, log_at, net_in, world_of}
 use Rattle.gr_world.specs.Fits.{Fits}
@@ -52,15 +52,21 @@ true_settled net f p b t F h n = h.settled
 true_logged : (net : Net) (f : Facts) (p b t : ℕ) (k : K) (e : Event) → IsTrueAt net f p b t k → k ≡ D e → f.said t ≡ Some e
 true_logged net f p b t k e h is = let x : IsTrueAt net f p b t (D e) = subst (IsTrueAt net f p b t) is h in x.logged
 
-is_logged : (net : Net) (w : World) (p b : ℕ) (runs : Known) → KnowsTruth net (facts_of net w p) p b runs → IsLogged (log_of w p) runs
-is_logged net w p b runs h = record {
-  settled = λ t n. true_settled net (facts_of net w p) p b t (known_at runs t) (h.each t) n;
-  events = λ t e is. true_logged net (facts_of net w p) p b t (known_at runs t) e (h.each t) is;
+is_logged : (net : Net) (w : World) (p from b : ℕ) (runs : Known) (js : Joins) → BodyTrue net (facts_of net w p) p from b (body.Knowledge runs js) → IsLogged (log_of w p) runs js
+is_logged net w p from b runs js h = record {
+  settled = λ t n. true_settled net (facts_of net w p) p b t (known_at runs t) (h.0.each t) n;
+  events = λ t e is. true_logged net (facts_of net w p) p b t (known_at runs t) e (h.0.each t) is;
+  rest = h.1.rest;
+  joins = h.1.front;
 }
 
 -- Lanes
 
 module _ (w : WorldView) (lanes : ℕ → Lane) (steps : List Line) (told : List (List Report)) (f : Fits w lanes steps told) (p : ℕ) (lt : p < length w.topo.publishers) where
+  -- the net of the joins so far
+  abbrev net : Net
+  net = joined_net (net_in w) steps
+
   abbrev b : ℕ
   b = host_of w.topo p
 
@@ -92,8 +98,8 @@ module _ (w : WorldView) (lanes : ℕ → Lane) (steps : List Line) (told : List
     records = let l : LogView = log.0 in l.records;
     reads = image_reads image left;
     sent = λ k x runs js at is of_p.
-        let t : FrameTrue (net_in w) (world_of w) x = frame_true (net_in w) (world_of w) k x (let s = stands_of w lanes steps told f in s.truth.frames) at in
-        let knows : BodyTrue (net_in w) (facts_of (net_in w) (world_of w) p) p x.head.from x.head.to (body.Knowledge runs js) =
-        subst (λ y. BodyTrue (net_in w) (facts_of (net_in w) (world_of w) p) p x.head.from x.head.to y) is (subst (λ q. BodyTrue (net_in w) (facts_of (net_in w) (world_of w) q) q x.head.from x.head.to x.body) of_p t.told) in
-        subst (λ (y : Log). IsLogged y runs) log_same (is_logged (net_in w) (world_of w) p x.head.to runs knows);
+        let t : FrameTrue net (world_of w) x = frame_true net (world_of w) k x (let s = stands_of w lanes steps told f in s.truth.frames) at in
+        let knows : BodyTrue net (facts_of net (world_of w) p) p x.head.from x.head.to (body.Knowledge runs js) =
+        subst (λ y. BodyTrue net (facts_of net (world_of w) p) p x.head.from x.head.to y) is (subst (λ q. BodyTrue net (facts_of net (world_of w) q) q x.head.from x.head.to x.body) of_p t.told) in
+        subst (λ (y : Log). IsLogged y runs js) log_same (is_logged net (world_of w) p x.head.from x.head.to runs js knows);
   }

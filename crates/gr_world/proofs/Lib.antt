@@ -12,7 +12,9 @@ pub mod Lanes
 pub mod Called
 pub mod Woken
 pub mod Received
+pub mod Logged
 pub mod Published
+pub mod Late
 pub mod Brokers
 pub mod Fresh
 pub mod Opened

@@ -1,5 +1,5 @@
 -- What is done for each of a list in turn, where the answers are joined and frames that fail a test are passed over: what is left is what passes among those that are left. A frame keeps its place while more are sent
-use Rattle.std.proofs.Common.{◌≡◌, ◌≢◌, ℕ, zero, suc, ◌+◌, ◌-◌, ◌<◌, ◌≤◌, Bool, true, false, cond, List, [], ◌∷◌, length, map, get_or, drop, Option, Some, Result, Ok, Err, refl, sym, ap, ap₂, ◌∙◌, subst, arith, add-one, length-append}
+use Rattle.std.proofs.Common.{◌≡◌, ◌≢◌, ℕ, zero, suc, ◌+◌, ◌-◌, ◌<◌, ◌≤◌, Bool, true, false, cond, List, [], ◌∷◌, length, map, get_or, drop, Some, Result, Ok, Err, refl, sym, ap, ap₂, ◌∙◌, subst, arith, add-one, length-append}
 use Rattle.std.specs.List.{filter}
 use Rattle.std.specs.Option.{option_map}
 use Rattle.std.proofs.Math.Seq.{drop-cons}
@@ -10,7 +10,6 @@ use Rattle.gr_model.specs.declared.report.Report.{Report}
 use Rattle.gr_model.specs.Net.{Net}
 use Rattle.gr_model.specs.World.{World, Transition, wake_for, wake_up, wake_up_by, unchanged, followed_by, in_turn, frame_at, frames_past, sent_since, is_want, is_know_to, deliver_frame, deliver_up, deliver_up_by, hand_down, hand_down_by, inwards, outwards, sweep_for, sweep_for_by}
 use Rattle.gr_world.specs.declared.fault.WorldFault.{WorldFault}
-use Rattle.gr_world.specs.declared.fault.WorldFault.TheVariants as fault
 use Rattle.gr_world.specs.Seen.{WorldView, frame_said, net_in, world_of}
 use Rattle.gr_world.specs.Steps.{Does}
 use Rattle.gr_world.specs.Ran.{Keeps}

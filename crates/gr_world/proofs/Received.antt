@@ -1,11 +1,15 @@
--- A frame of a world reaches its receiver: its bytes decode, it fits since it went over an edge, and one that clashes is dropped
--- where the machine's call changes and tells nothing
+-- A frame of a world reaches its receiver: its bytes decode, it fits since it went over an edge, and one that splits or clashes is
+-- dropped where the machine's call changes and tells nothing
 use Rattle.std.proofs.Common.{◌≡◌, ◌≢◌, ◌⊎◌, inl, inr, ℕ, zero, suc, ◌<◌, Bool, true, false, List, [], ◌∷◌, length, map, get_or, set, Option, Some, None, Result, Ok, Err, OnOk, OnErr, refl, sym, ap, ◌∙◌, subst}
 use Rattle.std.specs.Prelude.{slice_get, IfOk}
 use Rattle.std.specs.List.{AllByRecursion}
 use Rattle.std.proofs.lemmas.List.{set-get_or}
 use Rattle.std.proofs.lemmas.Bool.{cases_eq}
+use Rattle.gr_event.specs.declared.join.Split.{Split}
+use Rattle.gr_event.specs.Joins.{first_split, longer}
 use Rattle.std.specs.declared.alloc.AllocError.{AllocError}
+use Rattle.gr_frame.specs.declared.Body.{Body}
+use Rattle.gr_frame.specs.declared.Body.TheVariants as body
 use Rattle.gr_frame.specs.declared.Frame.{Frame}
 use Rattle.gr_frame.specs.declared.fault.FrameFault.{FrameFault}
 use Rattle.gr_frame.specs.Bytes.{frame_bytes}
@@ -17,24 +21,24 @@ use Rattle.gr_know.specs.Values.{known_at}
 use Rattle.gr_publog.specs.Crash.{LogView}
 use Rattle.gr_topo.specs.Topology.{host_of}
 use Rattle.gr_model.specs.declared.report.Report.{Report}
-use Rattle.gr_model.specs.Net.{Net}
+use Rattle.gr_model.specs.Net.{Net, wants_with, all_late}
 use Rattle.gr_model.specs.Tree.{IsNet}
-use Rattle.gr_model.specs.Arrivals.{fits_broker, least_clash}
-use Rattle.gr_model.specs.Broker.{View, Log, Outcome as MachineOutcome, empty_log, receive}
+use Rattle.gr_model.specs.Arrivals.{fits_broker, joins_in, least_clash}
+use Rattle.gr_model.specs.Broker.{View, Log, Outcome as MachineOutcome, empty_log, receive, seen, taking, with_joins, unmoved}
 use Rattle.gr_model.specs.World.{World, blank_view, view_of, log_of, frame_at, deliver_frame, deliver_frame_by}
 use Rattle.gr_model_calls.specs.Edges.{GoesOverEdge}
+use Rattle.gr_model_calls.proofs.calls.Held.{longer_late}
 use Rattle.gr_model_calls.proofs.topology.Strays.{receive_on}
 use Rattle.gr_model_theorems.proofs.server.CutEvents.{on_log}
 use Rattle.gr_broker_relay.specs.Told.{Tells}
 use Rattle.gr_broker.specs.declared.outcome.Received.{Received}
 use Rattle.gr_broker.specs.declared.outcome.Received.TheVariants as answer
-use Rattle.gr_broker.specs.declared.outcome.Dropped.{Dropped}
 use Rattle.gr_broker.specs.declared.outcome.Dropped.TheVariants as dropped
 use Rattle.gr_broker.specs.Seen.{BrokerView, view_in, log_in, log_said, is_broken}
 use Rattle.gr_broker.specs.Of.{IsBrokerOf}
-use Rattle.gr_broker.specs.Receipt.{Receipt, stray, clash, taken, came_at, receipt, receipt_of_fit, after_receipt, Answers}
+use Rattle.gr_broker.specs.Receipt.{Receipt, stray, split, clash, taken, came_at, receipt, receipt_of_fit, after_receipt, Answers}
 use Rattle.gr_report.proofs.Named.{all_of}
-use Rattle.gr_report.proofs.Passing.{over_edges, over_fits_broker, body_fits, none_some, PassesLog, PassesRest, HasLeast, receive_passes, clash_drops, receipt_logs, receipt_number}
+use Rattle.gr_report.proofs.Passing.{seen_edges, over_fits_broker, body_fits_with, none_some, PassesLog, PassesRest, HasLeast, receive_passes, split_drops, clash_drops, receipt_logs, receipt_number}
 use Rattle.gr_world.specs.declared.fault.WorldFault.{WorldFault}
 use Rattle.gr_world.specs.declared.fault.WorldFault.TheVariants as fault
 use Rattle.gr_world.specs.Seen.{WorldView, broker_in, log_at, frame_said, world_of, net_in}
@@ -74,51 +78,71 @@ pub record FitsIn (net : Net) (now : ℕ) (b : BrokerView) (f : Frame) (o : Mach
   pub view : (after_receipt (Ok f) (receipt net now b (Ok f)) b).views ≡ set b.views f.head.publisher o.view
 
 pub fits_in : PassesLog → PassesRest → HasLeast → (net : Net) (now : ℕ) (b : BrokerView) (f : Frame) (l : Log) → fits_broker net b.number f ≡ true
-    → FitsIn net now b f (receive net now f (view_in b f.head.publisher) l)
+    → FitsIn net now b f (let v : View = view_in b f.head.publisher in receive (seen net (taking v f)) now f v l)
 unfolding receipt receipt_of_fit
 fits_in passes rest law net now b f l fits =
-    let k = subst Is (sym is) (at (least_clash v.know f) refl) in record { told = k.0; view = k.1 }
+    let k = subst Is (sym is) (at (first_split 0 v.joins (joins_in f)) (least_clash v.know f) refl refl) in record { told = k.0; view = k.1 }
   where
     v : View
     v = view_in b f.head.publisher
 
+    -- the net that the joins show, those of the frame taken up
+    shown : Net
+    shown = seen net (taking v f)
+
     o : MachineOutcome
-    o = receive net now f v l
+    o = receive shown now f v l
 
     m : MachineOutcome
-    m = receive net now f v empty_log
+    m = receive shown now f v empty_log
 
     same : on_log m l ≡ o
-    same = receive_passes passes rest net now f v l
+    same = receive_passes passes rest shown now f v l
 
-    found : Option ℕ → Receipt
-    found c = elim c [ Some t ↦ clash t (known_at v.know t) (came_at f t) | None ↦ taken m ]
+    found : Option Split → Option ℕ → Receipt
+    found x c = elim x [ Some y ↦ split y | None ↦ elim c [ Some t ↦ clash t (known_at v.know t) (came_at f t) | None ↦ taken m ] ]
 
-    said : Bool → Option ℕ → Receipt
-    said q c = elim q [ false ↦ stray f.head | true ↦ found c ]
+    said : Bool → Option Split → Option ℕ → Receipt
+    said q x c = elim q [ false ↦ stray f.head | true ↦ found x c ]
 
     taken_told : (a : Received) → Answers a (taken m) → IsReceived o a
     taken_told (answer.Taken told) t = subst (λ (x : MachineOutcome). Tells x told) same (record { lines = t.lines; frames = t.frames; spelled = t.spelled })
     taken_told (answer.Dropped (dropped.NotFrame e)) t = absurd t
     taken_told (answer.Dropped (dropped.Stray h)) t = absurd t
+    taken_told (answer.Dropped (dropped.Split n j k)) t = absurd t
     taken_told (answer.Dropped (dropped.Clash c)) t = absurd t
 
-    clash_told : (x : ℕ) → least_clash v.know f ≡ Some x → (a : Received) → Answers a (clash x (known_at v.know x) (came_at f x)) → IsReceived o a
-    clash_told x e (answer.Taken told) t = absurd t
-    clash_told x e (answer.Dropped (dropped.NotFrame y)) t = absurd t
-    clash_told x e (answer.Dropped (dropped.Stray h)) t = absurd t
-    clash_told x e (answer.Dropped (dropped.Clash c)) t =
-        let d = clash_drops law net now f v l x e in (ap (λ (y : MachineOutcome). y.lines) d, ap (λ (y : MachineOutcome). y.frames) d)
+    -- where nothing moves nothing is told or sent, and what is kept stays
+    nothing_told : o ≡ unmoved v l → (o.lines ≡ []) × (o.frames ≡ [])
+    nothing_told d = (ap (λ (y : MachineOutcome). y.lines) d, ap (λ (y : MachineOutcome). y.frames) d)
+
+    nothing_kept : o ≡ unmoved v l → b.views ≡ set b.views f.head.publisher o.view
+    nothing_kept d = sym (ap (λ (y : MachineOutcome). set b.views f.head.publisher y.view) d ∙ set-get_or b.views f.head.publisher blank_view)
+
+    split_told : (x : Split) → o ≡ unmoved v l → (a : Received) → Answers a (split x) → IsReceived o a
+    split_told x d (answer.Taken told) t = absurd t
+    split_told x d (answer.Dropped (dropped.NotFrame y)) t = absurd t
+    split_told x d (answer.Dropped (dropped.Stray h)) t = absurd t
+    split_told x d (answer.Dropped (dropped.Split n j k)) t = nothing_told d
+    split_told x d (answer.Dropped (dropped.Clash c)) t = absurd t
+
+    clash_told : (x : ℕ) → o ≡ unmoved v l → (a : Received) → Answers a (clash x (known_at v.know x) (came_at f x)) → IsReceived o a
+    clash_told x d (answer.Taken told) t = absurd t
+    clash_told x d (answer.Dropped (dropped.NotFrame y)) t = absurd t
+    clash_told x d (answer.Dropped (dropped.Stray h)) t = absurd t
+    clash_told x d (answer.Dropped (dropped.Split n j k)) t = absurd t
+    clash_told x d (answer.Dropped (dropped.Clash c)) t = nothing_told d
 
     Is : Receipt → Type 0
     Is r = ((a : Received) → Answers a r → IsReceived o a) × ((after_receipt (Ok f) r b).views ≡ set b.views f.head.publisher o.view)
 
-    at : (c : Option ℕ) → least_clash v.know f ≡ c → Is (found c)
-    at (Some x) e = (clash_told x e, sym (ap (λ (y : MachineOutcome). set b.views f.head.publisher y.view) (clash_drops law net now f v l x e) ∙ set-get_or b.views f.head.publisher blank_view))
-    at None e = (taken_told, ap (λ (y : MachineOutcome). set b.views f.head.publisher y.view) same)
+    at : (x : Option Split) (c : Option ℕ) → first_split 0 v.joins (joins_in f) ≡ x → least_clash v.know f ≡ c → Is (found x c)
+    at (Some y) c s e = let d = split_drops shown now f v l y s in (split_told y d, nothing_kept d)
+    at None (Some x) s e = let d = clash_drops law shown now f v l x e in (clash_told x d, nothing_kept d)
+    at None None s e = (taken_told, ap (λ (y : MachineOutcome). set b.views f.head.publisher y.view) same)
 
-    is : receipt net now b (Ok f) ≡ found (least_clash v.know f)
-    is = ap (λ q. said q (least_clash v.know f)) fits
+    is : receipt net now b (Ok f) ≡ found (first_split 0 v.joins (joins_in f)) (least_clash v.know f)
+    is = ap (λ q. said q (first_split 0 v.joins (joins_in f)) (least_clash v.know f)) fits
 
 -- The answer
 
@@ -150,7 +174,19 @@ not_reopen reply result f h = cc (only_memory reply result f fault.Reopen h)
 
 -- the machine's outcome of it
 abbrev pub deliver_in : WorldView → Frame → MachineOutcome
-deliver_in w f = let m : World = world_of w in receive (net_in w) w.clock f (view_of m f.head.to f.head.publisher) (log_of m f.head.publisher)
+deliver_in w f =
+    let m : World = world_of w in
+    let v : View = view_of m f.head.to f.head.publisher in
+    receive (seen (net_in w) (taking v f)) w.clock f v (log_of m f.head.publisher)
+
+-- where what is held is of late subscribers, as is what a frame over an edge brings, so is what is held once it is taken up
+pub taking_late : (net : Net) (v : View) (f : Frame) → all_late net v.joins ≡ true → GoesOverEdge net f → all_late net (taking v f).joins ≡ true
+taking_late net v f late over = go f.body over.joins
+  where
+    go : (y : Body) → all_late net (elim y [ body.Knowledge runs js ↦ js | _ ↦ [] ]) ≡ true → all_late net (let u : View = elim y [ body.Knowledge runs js ↦ with_joins v (longer v.joins js) | _ ↦ v ] in u.joins) ≡ true
+    go (body.Knowledge runs js) h = longer_late net v.joins js late h
+    go (body.Curiosity runs) h = late
+    go (body.Expect tick) h = late
 
 module _ (w : WorldView) (f : Frame) (bytes : List ℕ) (i : IsWorld w) (spelled : IsFrame bytes f) (over : GoesOverEdge (net_in w) f) where
   abbrev broker : BrokerView
@@ -166,7 +202,7 @@ module _ (w : WorldView) (f : Frame) (bytes : List ℕ) (i : IsWorld w) (spelled
   -- what the receiver answers and leaves is the machine's outcome
   pub delivers : PassesLog → PassesRest → HasLeast → FitsIn (net_in w) w.clock broker f (deliver_in w f)
   delivers passes rest law =
-      subst (λ (v : View). FitsIn (net_in w) w.clock broker f (receive (net_in w) w.clock f v (log_of (world_of w) f.head.publisher))) (sym (view_is w f.head.to f.head.publisher within))
+      subst (λ (v : View). FitsIn (net_in w) w.clock broker f (receive (seen (net_in w) (taking v f)) w.clock f v (log_of (world_of w) f.head.publisher))) (sym (view_is w f.head.to f.head.publisher within))
       (fits_in passes rest law (net_in w) w.clock broker f (log_of (world_of w) f.head.publisher) (over_fits_broker (net_in w) f broker.number (sym (i.numbered f.head.to over.to)) over))
 
   -- What is said of the answer, by the bytes
@@ -205,8 +241,8 @@ module _ (w : WorldView) (f : Frame) (bytes : List ℕ) (i : IsWorld w) (spelled
     view = on_reply _ reply result by (viewed reply leaves);
     log = on_all result (ap log_said (log_kept reply after frames leaves err f.head.publisher) ∙ (sym (log_is w f.head.publisher over.publisher) ∙ sym (passed passes)));
     spelled = on_reply _ reply result by (spelled_by reply (is_received passes rest law reply says));
-    over = all_of (GoesOverEdge (net_in w)) _ (receive_on (net_in w) w.clock (GoesOverEdge (net_in w)) f _ _ (over_edges (net_in w) f.head.publisher f.head.to n over.publisher over.to)
-        (body_fits (net_in w) f.head.publisher f.head.from f.head.to f.body over.between));
+    over = all_of (GoesOverEdge (net_in w)) _ (receive_on (seen (net_in w) (taking kept f)) w.clock (GoesOverEdge (net_in w)) f kept _ (seen_edges (net_in w) (taking kept f) f.head.publisher f.head.to n over.publisher over.to held)
+        (body_fits_with (net_in w) (wants_with (net_in w) (taking kept f).joins) f.head.publisher f.head.from f.head.to f.body over.between));
     touches = record {
       number = left reply after leaves err (λ (x : BrokerView). x.number ≡ broker.number) refl (receipt_number f (receipt (net_in w) w.clock broker (Ok f)) broker);
       others = λ q d. ap (λ (ls : List (Option LogView)). get_or ls q None) (same_logs reply after leaves err);
@@ -218,6 +254,14 @@ module _ (w : WorldView) (f : Frame) (bytes : List ℕ) (i : IsWorld w) (spelled
     reopen = λ e. absurd (not_reopen reply result by e);
   }
     where
+      kept : View
+      kept = view_of (world_of w) f.head.to f.head.publisher
+
+      held : all_late (net_in w) (taking kept f).joins ≡ true
+      held =
+          taking_late (net_in w) kept f
+          (subst (λ (v : View). all_late (net_in w) v.joins ≡ true) (sym (view_is w f.head.to f.head.publisher within)) ((i.brokers f.head.to over.to).kept f.head.publisher over.publisher).joins) over
+
       viewed : (reply : Result Received AllocError) → Leaves reply after → OnOk reply (after.views ≡ set broker.views f.head.publisher (deliver_in w f).view)
       viewed (Ok a) h =
           ap (λ (x : BrokerView). x.views) h
@@ -226,13 +270,14 @@ module _ (w : WorldView) (f : Frame) (bytes : List ℕ) (i : IsWorld w) (spelled
 
       spelled_by : (reply : Result Received AllocError) → IfOk reply (IsReceived (deliver_in w f)) → OnOk reply (AreFrames (map frame_bytes (deliver_in w f).frames) (deliver_in w f).frames)
       spelled_by (Ok (answer.Taken told)) t = subst (λ (bs : List (List ℕ)). AreFrames bs (deliver_in w f).frames) t.frames t.spelled
+      spelled_by (Ok (answer.Dropped (dropped.Split a j k))) t = subst (λ (fs : List Frame). AreFrames (map frame_bytes fs) fs) (sym t.1) tt
       spelled_by (Ok (answer.Dropped (dropped.Clash c))) t = subst (λ (fs : List Frame). AreFrames (map frame_bytes fs) fs) (sym t.1) tt
       spelled_by (Ok (answer.Dropped (dropped.NotFrame x))) t = absurd t
       spelled_by (Ok (answer.Dropped (dropped.Stray h))) t = absurd t
       spelled_by (Err e) t = tt
 
       passed : PassesLog → (let o : MachineOutcome = deliver_in w f in o.log ≡ log_of (world_of w) f.head.publisher)
-      passed k = k (net_in w) w.clock f _ _
+      passed k = k (seen (net_in w) (taking kept f)) w.clock f _ _
 
   -- so it does what the machine's delivery does
   pub deliver_does : (after : BrokerView) (frames : List (List ℕ)) (result : Result (List Report) WorldFault) → Called w f.head.to f.head.publisher (deliver_in w f) after frames result

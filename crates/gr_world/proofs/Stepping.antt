@@ -12,7 +12,7 @@ use Rattle.gr_out.specs.Lane.{Lane}
 use Rattle.gr_model.specs.declared.report.Report.{Report}
 use Rattle.gr_model.specs.declared.report.Report.TheVariants as line
 use Rattle.gr_model.specs.Net.{Net, numbers_from}
-use Rattle.gr_model.specs.World.{World, Transition, unchanged, next, next_by, publish_now, wake_all, wake_all_by, wake_for, deliver_frame, frame_at}
+use Rattle.gr_model.specs.World.{World, Transition, unchanged, next, next_by, publish_now, join_now, wake_all, wake_all_by, wake_for, deliver_frame, frame_at}
 use Rattle.gr_world.specs.declared.fault.WorldFault.{WorldFault}
 use Rattle.gr_world.specs.declared.fault.WorldFault.TheVariants as fault
 use Rattle.gr_world.specs.Seen.{WorldView, world_of, net_in, frame_said}
@@ -24,6 +24,11 @@ use Rattle.gr_world.proofs.Composed.{Leads, leads_first, reached}
 pub next_publish : (net : Net) (w : World) (n p number : ℕ) (e : Event) → next net w (record { number = n; step = step.Publish p number None e }) ≡ publish_now net w p number e
 unfolding next_by
 next_publish net w n p number e = refl
+
+-- a join is the join at the host
+pub next_join : (net : Net) (w : World) (n s p : ℕ) → next net w (record { number = n; step = step.Join s p }) ≡ join_now net w s p
+unfolding next_by
+next_join net w n s p = refl
 
 -- a wake is that for all publishers
 pub next_wake : (net : Net) (w : World) (n b : ℕ) → next net w (record { number = n; step = step.Wake b }) ≡ wake_all net w b

@@ -11,7 +11,8 @@ use Rattle.gr_out.specs.Lane.{Lane}
 use Rattle.gr_topo.specs.Topology.{TopologyView, host_of}
 use Rattle.gr_model.specs.declared.report.Report.{Report}
 use Rattle.gr_model.specs.Tree.{IsNet}
-use Rattle.gr_model.specs.Broker.{View, Log, Outcome as MachineOutcome, wake}
+use Rattle.gr_model.specs.Net.{all_late}
+use Rattle.gr_model.specs.Broker.{View, Log, Outcome as MachineOutcome, seen, wake}
 use Rattle.gr_model.specs.World.{World, blank_view, view_of, log_of, wake_for, wake_for_by}
 use Rattle.gr_model_calls.specs.Edges.{GoesOverEdge}
 use Rattle.gr_model_calls.proofs.topology.Strays.{wake_on}
@@ -25,7 +26,7 @@ use Rattle.gr_broker.specs.Of.{IsBrokerOf, LogsStand}
 use Rattle.gr_broker.specs.Told.{log_answer}
 use Rattle.gr_broker.specs.Hosted.{wake_at, mark_at, mark_logs_at, cut_logs_at, after_mark, after_wake, WakeLeaves, AppendsTwice, AppendsTwiceAt}
 use Rattle.gr_report.proofs.Named.{all_of}
-use Rattle.gr_report.proofs.Passing.{wake_passes, tells_on, over_edges}
+use Rattle.gr_report.proofs.Passing.{wake_passes, tells_on, seen_edges}
 use Rattle.gr_world.specs.declared.fault.WorldFault.{WorldFault}
 use Rattle.gr_world.specs.declared.fault.WorldFault.TheVariants as fault
 use Rattle.gr_world.specs.Seen.{WorldView, broker_in, log_at, world_of, net_in}
@@ -58,7 +59,7 @@ pub record WakesOn (t : TopologyView) (x : BrokerView) (p now : ℕ) (after : Br
 
 -- the machine's outcome of a wake
 abbrev pub wake_in : WorldView → ℕ → ℕ → MachineOutcome
-wake_in w b p = let m : World = world_of w in wake (net_in w) p b w.clock (view_of m b p) (log_of m p)
+wake_in w b p = let m : World = world_of w in let v : View = view_of m b p in wake (seen (net_in w) v) p b w.clock v (log_of m p)
 
 module _ (w : WorldView) (b p : ℕ) (i : IsWorld w) (lt : b < length w.topo.brokers) (below : p < length w.topo.publishers) where
   abbrev broker : BrokerView
@@ -78,23 +79,26 @@ module _ (w : WorldView) (b p : ℕ) (i : IsWorld w) (lt : b < length w.topo.bro
       go None e = refl
       go (Some l) e = absurd (true≢false e)
 
+  abbrev woken : ℕ → View → Log → MachineOutcome
+  woken n v l = wake (seen (net_in w) v) p n w.clock v l
+
   -- the broker's wake at the number and with the view that the machine has
-  numbered_wake : (l : Log) → wake (net_in w) p broker.number w.clock (view_in broker p) l ≡ wake (net_in w) p b w.clock (view_of machine b p) l
+  numbered_wake : (l : Log) → woken broker.number (view_in broker p) l ≡ woken b (view_of machine b p) l
   numbered_wake l =
-      ap (λ n. wake (net_in w) p n w.clock (view_in broker p) l) (i.numbered b lt)
-      ∙ ap (λ (v : View). wake (net_in w) p b w.clock v l) (sym (view_is w b p within))
+      ap (λ n. woken n (view_in broker p) l) (i.numbered b lt)
+      ∙ ap (λ (v : View). woken b v l) (sym (view_is w b p within))
 
   -- at the host it is the machine's
   pub wake_hosted : host_of w.topo p ≡ b → wake_at w.topo broker p w.clock ≡ wake_in w b p
   wake_hosted e =
       numbered_wake (machine_log broker p)
-      ∙ ap (λ (l : Log). wake (net_in w) p b w.clock (view_of machine b p) l) (sym (log_is w p below ∙ ap (λ c. log_said (log_in (broker_in w c) p)) e))
+      ∙ ap (λ (l : Log). woken b (view_of machine b p) l) (sym (log_is w p below ∙ ap (λ c. log_said (log_in (broker_in w c) p)) e))
 
   -- elsewhere it is the machine's but for the log, which that passes on
   pub wake_elsewhere : host_of w.topo p ≢ b → on_log (wake_at w.topo broker p w.clock) (log_of machine p) ≡ wake_in w b p
   wake_elsewhere n =
-      ap (λ (o : MachineOutcome). on_log o (log_of machine p)) (numbered_wake (machine_log broker p) ∙ ap (λ (l : Option LogView). wake (net_in w) p b w.clock (view_of machine b p) (log_said l)) (no_log n))
-      ∙ sym (wake_passes (net_in w) p b w.clock (view_of machine b p) (log_of machine p) (ne_eqb (host_of w.topo p) b n))
+      ap (λ (o : MachineOutcome). on_log o (log_of machine p)) (numbered_wake (machine_log broker p) ∙ ap (λ (l : Option LogView). woken b (view_of machine b p) (log_said l)) (no_log n))
+      ∙ sym (wake_passes (seen (net_in w) (view_of machine b p)) p b w.clock (view_of machine b p) (log_of machine p) (ne_eqb (host_of w.topo p) b n))
 
   -- so it is the machine's with the machine's log
   pub wake_same : on_log (wake_at w.topo broker p w.clock) (wake_in w b p).log ≡ wake_in w b p
@@ -127,7 +131,8 @@ module _ (w : WorldView) (b p : ℕ) (i : IsWorld w) (lt : b < length w.topo.bro
     view = ok_follows _ answer result f (on_ok (log_answer answer) (λ h. ap (λ (x : BrokerView). x.views) h ∙ ap (λ (o : MachineOutcome). set broker.views p o.view) wake_same) k.leaves.ok);
     log = ok_follows _ answer result f (log_after after frames answer k.log);
     spelled = ok_follows _ answer result f (spelled_follow (wake_in w b p) answer told_in);
-    over = all_of (GoesOverEdge (net_in w)) _ (wake_on (net_in w) p b w.clock (GoesOverEdge (net_in w)) _ _ (over_edges (net_in w) p b n below lt));
+    over = all_of (GoesOverEdge (net_in w)) _
+        (wake_on (seen (net_in w) (view_of machine b p)) p b w.clock (GoesOverEdge (net_in w)) (view_of machine b p) _ (seen_edges (net_in w) (view_of machine b p) p b n below lt late));
     touches = on (Touches p broker) (untouched p broker) (touched p broker log_marked view_marked) (touched p broker log_woken view_woken)
         (λ h. (touched_broken p broker, touched_twice p broker marked (broken_at marked p) (touched p broker log_marked view_marked) (touched_broken p marked)));
     fits = k.fits;
@@ -156,6 +161,10 @@ module _ (w : WorldView) (b p : ℕ) (i : IsWorld w) (lt : b < length w.topo.bro
 
       view_woken : View
       view_woken = let o : MachineOutcome = wake_at w.topo broker p w.clock in o.view
+
+      -- what is held is of late subscribers
+      late : all_late (net_in w) (view_of machine b p).joins ≡ true
+      late = subst (λ (v : View). all_late (net_in w) v.joins ≡ true) (sym (view_is w b p within)) ((i.brokers b lt).kept p below).joins
 
       told_in : IfOk answer (Tells (wake_in w b p))
       told_in = subst (λ (o : MachineOutcome). IfOk answer (Tells o)) wake_same (tells_on (wake_at w.topo broker p w.clock) (wake_in w b p).log answer k.told)

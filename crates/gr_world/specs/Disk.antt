@@ -1,5 +1,5 @@
 -- What a call that takes the disk does to it
-use Rattle.std.specs.Prelude.{◌≡◌, ◌≢◌, ◌⊎◌, ◌↔◌, ℕ, ◌*◌, ◌≤◌, ◌<◌, true, List, length, None, Result, Err, IsErrOf}
+use Rattle.std.specs.Prelude.{◌≡◌, ◌≢◌, ◌⊎◌, ◌↔◌, ℕ, ◌*◌, ◌≤◌, ◌<◌, true, List, length, Result, Err, IsErrOf}
 use Rattle.std.specs.Prelude.{IsSome}
 use Rattle.gr_event.specs.declared.event.Event.{Event}
 use Rattle.gr_out.specs.Lane.{Lane}
@@ -9,7 +9,7 @@ use Rattle.gr_sched.specs.declared.step.Step.{Step}
 use Rattle.gr_topo.specs.Topology.{TopologyView, host_of}
 use Rattle.gr_model.specs.declared.report.Report.{Report}
 use Rattle.gr_broker.specs.Seen.{log_in, is_broken}
-use Rattle.gr_broker.specs.Hosted.{publish_logs_at, mark_logs_at, cut_logs_at}
+use Rattle.gr_broker.specs.Hosted.{publish_logs_at, join_logs_at, mark_logs_at, cut_logs_at}
 use Rattle.gr_world.specs.declared.fault.WorldFault.{WorldFault}
 use Rattle.gr_world.specs.declared.fault.WorldFault.TheVariants as fault
 use Rattle.gr_world.specs.Seen.{WorldView, broker_in, log_at}
@@ -55,6 +55,11 @@ IsClosed old new result = IsSome old.down → (result ≡ Err fault.Reopen) × (
 abbrev pub IsBarred : WorldView → ℕ → ℕ → Event → Type 0
 IsBarred w p number e = (is_broken (log_at w p) ≡ true)
     × IsSome (publish_logs_at (broker_in w (host_of w.topo p)) p w.clock number e)
+
+-- the same of the join of a subscriber
+abbrev pub IsBarredJoin : WorldView → ℕ → ℕ → Type 0
+IsBarredJoin w p s = (is_broken (log_at w p) ≡ true)
+    × IsSome (join_logs_at (broker_in w (host_of w.topo p)) p s w.clock)
 
 -- a wake of a broker for a publisher that would append a mark or a cut to a log that the disk has failed
 abbrev pub IsWakeBarred : WorldView → ℕ → ℕ → Type 0

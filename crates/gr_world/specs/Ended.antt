@@ -1,5 +1,5 @@
 -- How a wake or a sweep ends that is ended at a log: what of it was made before, and what stands of the last part
-use Rattle.std.specs.Prelude.{◌≡◌, ◌⊎◌, ℕ, List, ◌∷◌, ◌++◌, length, Result, Err, IsErrOf}
+use Rattle.std.specs.Prelude.{◌≡◌, ◌⊎◌, ℕ, List, ◌∷◌, ◌++◌, Result, Err, IsErrOf}
 use Rattle.gr_model.specs.declared.report.Report.{Report}
 use Rattle.gr_model.specs.Net.{Net}
 use Rattle.gr_model.specs.World.{World, Transition, in_turn, wake_up, inwards, outwards}

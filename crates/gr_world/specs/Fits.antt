@@ -1,4 +1,4 @@
--- A world and the run that led to it: the lanes of its disk, the steps that its calls have made, and what they have told
+-- A world and the run that led to it: the lanes of its disk, the steps that its calls have made, and what they told
 use Rattle.std.specs.Prelude.{◌≡◌, ℕ, false, List, [], ◌∷◌, ◌++◌, Some, Result}
 use Rattle.gr_out.specs.Lane.{Lane}
 use Rattle.gr_sched.specs.declared.step.Step.{Step}
@@ -8,8 +8,9 @@ use Rattle.gr_model.specs.NetOf.{IsOrderly}
 use Rattle.gr_model.specs.Tree.{IsNet}
 use Rattle.gr_model.specs.World.{report_of, sweep}
 use Rattle.gr_model_calls.specs.Fits.{StepsIn, history_of}
+use Rattle.gr_model_calls.specs.OneNet as one
 use Rattle.gr_model_theorems.specs.Settles.{SweepSettles, AllGot}
-use Rattle.gr_model_theorems.specs.Statements.{world_after}
+use Rattle.gr_model_theorems.specs.Statements.{world_after, joined_net}
 use Rattle.gr_world.specs.declared.fault.WorldFault.{WorldFault}
 use Rattle.gr_world.specs.Seen.{WorldView, net_in, world_of}
 use Rattle.gr_world.specs.Of.{IsWorld, LanesFit, IsSound}
@@ -39,11 +40,14 @@ GoesOn s lanes lanes' old new result =
     → lines_of_step number s result ≡ Some lines → Fits old lanes steps told
     → Fits new lanes' (steps ++ record { number = number; step = s } ∷ []) (told ++ lines ∷ [])
 
--- What a sweep reaches after these steps, whatever the number k of its line
+-- What a sweep reaches after these steps, whatever the number k of its line. It joins no one, so all its calls are on
+-- the net of the joins so far
 pub record SettlesAll (steps : List Line) (old new : WorldView) (lines : List Report) : Type 0 where
   pub is : (k : ℕ) → sweep (net_in old) (world_of old) k ≡ record { world = world_of new; lines = lines }
+  pub on_one : (k : ℕ) → one.sweep (joined_net (net_in old) steps) (world_of old) k
+      ≡ record { world = world_of new; lines = lines }
   -- every kept horizon, what is settled of every log, and every cut are its moment; all that it sends but what is to be
   -- expected is delivered in it, once; its lines say so
-  pub settles : (k : ℕ) → SweepSettles (net_in old) (world_of old) k
-  -- every subscriber has got exactly what is recorded that it wants
-  pub all_got : (k : ℕ) → AllGot (net_in old) (history_of (net_in old) steps) (world_of old) k
+  pub settles : (k : ℕ) → SweepSettles (joined_net (net_in old) steps) (world_of old) k
+  -- every subscriber has got exactly what is recorded that it wants, a late one by its join
+  pub all_got : (k : ℕ) → AllGot (joined_net (net_in old) steps) (history_of (net_in old) steps) (world_of old) k

@@ -54,7 +54,10 @@ restart_over net w b logs = record { world = restarted net (with_logs w logs) b;
 
 -- its crash and start again over them
 abbrev pub crash_over : Net → World → ℕ → List Log → Transition
-crash_over net w b logs = record { world = restarted net (with_logs w logs) b; lines = line.Crashed b ∷ opened_lines net logs b }
+crash_over net w b logs = record {
+  world = restarted net (with_logs w logs) b;
+  lines = line.Crashed b ∷ opened_lines net logs b;
+}
 
 -- A broker has crashed and started again. The logs of its publishers are those that the crash left on their lanes, all
 -- other logs are as they were; over these it is the machine's crash, whether the disk had failed a log or not

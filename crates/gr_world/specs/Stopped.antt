@@ -1,5 +1,6 @@
 -- A publish that stops within: the append that is broken, and the host's start over what is left
-use Rattle.std.specs.Prelude.{◌≡◌, ◌≢◌, ◌⊎◌, ℕ, ◌*◌, ◌<◌, suc, max, Bool, false, ◌&&◌, nat_eq, nat_le, if◌then◌else◌, List, ◌∷◌}
+use Rattle.std.specs.Prelude.{◌≡◌, ◌≢◌, ◌⊎◌, ℕ, ◌*◌, ◌<◌, suc, max, Bool, false, ◌&&◌, nat_eq, nat_le, List, ◌∷◌}
+use Rattle.std.specs.Prelude.{if◌then◌else◌}
 use Rattle.std.specs.Prelude.{length, get_or, Option, Some, None, Result, Ok, Err, IsErrOf, OnOk}
 use Rattle.gr_event.specs.declared.event.Event.{Event}
 use Rattle.gr_out.specs.Lane.{Lane, crash_image}
@@ -74,9 +75,9 @@ stopped_over net w b p number tick logs =
       lines = line.Crashed b ∷ (kept_line (nat_eq log.last number) p number tick ∷ opened_lines net logs b);
     }
 
--- A publish that was stopped, and its host's start again. The log has the event where the call and the pick keep it; the
--- other logs of the host are those that the crash left on their lanes, and all others are as they were. Over these it is
--- the machine's, whether the disk had failed a log or not
+-- A publish that was stopped, and its host's start again. The log has the event where the call and the pick keep it;
+-- the other logs of the host are those that the crash left on their lanes, and all others are as they were. Over these
+-- it is the machine's, whether the disk had failed a log or not
 pub record StopsOver (p tick number : ℕ) (e : Event) (call pick : ℕ) (lanes : ℕ → Lane) (old new : WorldView)
     (lines : List Report) : Type 0 where
   pub own : (l m : LogView) → log_at old p ≡ Some l → log_at new p ≡ Some m

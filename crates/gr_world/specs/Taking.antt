@@ -39,9 +39,10 @@ pub record TakesUp (o : MachineOutcome) (before after : List (List ℕ))
   pub frames : OnOk result (after ≡ before ++ map frame_bytes o.frames)
   pub kept : OnErr result (after ≡ before)
 
--- a datagram was taken as this outcome, or dropped since it clashes, where the outcome is none
+-- a datagram was taken as this outcome, or dropped since it splits or clashes, where the outcome is none
 abbrev pub IsReceived : MachineOutcome → Received → Type 0
 IsReceived o (answer.Taken told) = Tells o told
+IsReceived o (answer.Dropped (dropped.Split at kept came)) = (o.lines ≡ []) × (o.frames ≡ [])
 IsReceived o (answer.Dropped (dropped.Clash c)) = (o.lines ≡ []) × (o.frames ≡ [])
 IsReceived o _ = ⊥
 

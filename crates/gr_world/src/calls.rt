@@ -1,14 +1,14 @@
 //! One broker's call within a step, taken up by the world.
 
-ghost use Rattle.std.specs.Prelude.{◌≡◌, ◌↔◌, ℕ, ◌<◌, suc, length, Some, Err, IsErrOf};
+ghost use Rattle.std.specs.Prelude.{◌≡◌, ◌↔◌, ℕ, ◌<◌, true, suc, length, Some, Err, IsErrOf};
 ghost use Rattle.gr_frame.specs.declared.Frame.{Frame};
-ghost use Rattle.gr_topo.specs.Topology.{host_of};
-ghost use Rattle.gr_model.specs.World.{wake_for, deliver_frame, publish_now, frame_at};
+ghost use Rattle.gr_topo.specs.Topology.{host_of, late_of};
+ghost use Rattle.gr_model.specs.World.{wake_for, deliver_frame, publish_now, join_now, frame_at};
 ghost use Rattle.gr_world.specs.Seen.{net_in, world_of, log_at};
 ghost use Rattle.gr_world.specs.Of.{IsWorld, LanesFit};
 ghost use Rattle.gr_world.specs.Steps.{Does};
 ghost use Rattle.gr_world.specs.Ran.{IsOpen, Ran, TouchesOne};
-ghost use Rattle.gr_world.specs.Disk.{UsesDisk, LeavesOthers, IsBarred, IsWakeBarred};
+ghost use Rattle.gr_world.specs.Disk.{UsesDisk, LeavesOthers, IsBarred, IsBarredJoin, IsWakeBarred};
 ghost use Rattle.gr_world.specs.Ended.{WakeEnds};
 ghost use Rattle.gr_world.specs.Stopped.{broken_in};
 
@@ -51,6 +51,37 @@ impl World {
         self.last.set(host);
         let broker = &mut self.brokers[host as usize];
         let answer = broker.publish(&self.topology, disk, p, number, event, self.clock);
+        take_answer(&mut self.frames, answer)
+    }
+
+    /// Joins a late subscriber to a publisher at the publisher's host.
+    pub(crate) fn join_at_host<D: SimDisk>(
+        &mut self,
+        disk: &mut D,
+        s: u16,
+        p: u16,
+    ) -> Result<Reports, WorldFault>
+        requires fits { IsWorld self.old }
+        requires publisher { p < length self.old.topo.publishers }
+        requires late { late_of self.old.topo s ≡ true }
+        requires open { IsOpen self.old }
+        requires lanes { LanesFit (D.lane_of disk.old) self.old }
+        ensures does { Does (join_now (net_in self.old) (world_of self.old) s p) self.new result }
+        ensures ran { Ran self.old self.new result }
+        ensures reopen { IsErrOf result WorldFault.Reopen ↔ IsBarredJoin self.old p s }
+        ensures unchanged { IsErrOf result WorldFault.Reopen → (self.new ≡ self.old) × (disk.new ≡ disk.old) }
+        ensures failed { IsErrOf result WorldFault.Disk → self.new ≡ broken_in self.old (host_of self.old.topo p) p }
+        ensures disk { UsesDisk (D.faultless disk.old) (D.faultless disk.new) (D.faults disk.old)
+            (D.stops disk.old) (D.faults disk.new) (D.stops disk.new) result }
+        ensures others { LeavesOthers self.old.topo (D.lane_of disk.old) (D.lane_of disk.new) }
+        ensures lanes { LanesFit (D.lane_of disk.new) self.new }
+    {
+        // Proof only: what is sent goes over edges.
+        every_topology_is_a_tree(&self.topology);
+        let host = self.topology.host(p);
+        self.last.set(host);
+        let broker = &mut self.brokers[host as usize];
+        let answer = broker.join(&self.topology, disk, p, s, self.clock);
         take_answer(&mut self.frames, answer)
     }
 

@@ -29,6 +29,9 @@ fn copy_report(alloc: Global, line: &Report) -> Result<Report, Memory>
         Already { publisher, number }
         Gap { publisher, number, next }
         Exhausted { publisher, number }
+        Joined { subscriber, publisher, tick }
+        AlreadyJoined { subscriber, publisher }
+        ExhaustedJoin { subscriber, publisher }
         Kept { publisher, number, tick }
         Lost { publisher, number, tick }
         Mark { publisher, tick }
@@ -46,6 +49,7 @@ fn copy_report(alloc: Global, line: &Report) -> Result<Report, Memory>
         RefusedClock { line, moment }
         DroppedNotFrame { broker, fault, at }
         DroppedStray { broker, from, to, publisher }
+        DroppedSplit { broker, at, kept, came }
         DroppedClash { broker, tick; kept: kept.share(), came: came.share() }
         DroppedBadNote { broker, fault, at }
         DroppedStrayNote { broker, publisher }

@@ -10,8 +10,8 @@
 //! | `world` | The world, its clock, and what its opening told. | `Seen`, `Of` |
 //! | `opening` | Makes a world over a disk; crashes a broker. | `start`, `crash`; `Opened` |
 //! | `starting` | Starts all brokers over their lanes, or one again after its lanes have crashed. | `Starting` |
-//! | `steps` | The steps `publish`, `wake` and `deliver`. | `Makes` and `Refuses` in `Steps`, `Disk` |
-//! | `calls` | One broker's call within a step. | `publish_now`, `wake_for`, `deliver_frame`; `Ran` |
+//! | `steps` | The steps `publish`, `join`, `wake` and `deliver`. | `Makes` and `Refuses` in `Steps`, `Disk` |
+//! | `calls` | One broker's call within a step. | `publish_now`, `join_now`, `wake_for`, `deliver_frame`; `Ran` |
 //! | `sending` | Takes up what a call tells and sends: frames are numbered and kept. | `sent_lines`; `Taking` |
 //! | `stopping` | A publish that stops inside: its host crashes and starts again. | `publish_stopped`; `Stopped` |
 //! | `sweeping` | A sweep: three phases for each publisher. | `sweep_moment`, `sweep_for`; `Sweeps` |

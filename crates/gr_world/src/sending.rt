@@ -52,8 +52,8 @@ pub(crate) fn take_answer(
     }
 }
 
-/// Takes up what becomes of a frame that fits its receiver: it is taken, or it clashes and is dropped, and then nothing
-/// is told or sent.
+/// Takes up what becomes of a frame that fits its receiver: it is taken, or it splits or clashes and is dropped, and
+/// then nothing is told or sent.
 pub(crate) fn take_receipt(
     alloc: Global,
     frames: &mut FrameStore,
@@ -69,7 +69,9 @@ pub(crate) fn take_receipt(
             Ok(lines) => Ok(lines),
             Err(_) => Err(WorldFault::Memory),
         },
-        Ok(Received::Dropped(Dropped::Clash { .. })) => Ok(Reports::new(alloc)),
+        Ok(Received::Dropped(Dropped::Split { .. } | Dropped::Clash { .. })) => Ok(Reports::new(
+            alloc,
+        )),
         Ok(Received::Dropped(_)) => unreachable!(),
         Err(_) => Err(WorldFault::Memory),
     }

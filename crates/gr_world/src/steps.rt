@@ -1,10 +1,10 @@
 //! The steps that call brokers and leave the disk's stops alone.
 
-ghost use Rattle.std.specs.Prelude.{◌≡◌, ◌≢◌, ◌⊎◌, ◌↔◌, ℕ, ◌<◌, suc, false, length, Some, None, Err, IsErrOf, IsSome};
-ghost use Rattle.std.specs.Prelude.{IfSome, IfNone};
+ghost use Rattle.std.specs.Prelude.{◌≡◌, ◌≢◌, ◌⊎◌, ◌↔◌, ℕ, ◌<◌, suc, true, false, length, Some, None, Err, IsErrOf};
+ghost use Rattle.std.specs.Prelude.{IsSome, IfSome, IfNone};
 ghost use Rattle.gr_out.specs.Lane.{Lane};
 ghost use Rattle.gr_sched.specs.declared.step.Step.TheVariants as step;
-ghost use Rattle.gr_topo.specs.Topology.{host_of};
+ghost use Rattle.gr_topo.specs.Topology.{host_of, late_of};
 ghost use Rattle.gr_model.specs.Net.{numbers};
 ghost use Rattle.gr_model.specs.World.{wake_for, wake_all, frame_at};
 ghost use Rattle.gr_world.specs.Seen.{net_in, world_of};
@@ -12,7 +12,8 @@ ghost use Rattle.gr_world.specs.Of.{IsWorld, LanesFit};
 ghost use Rattle.gr_world.specs.Ran.{IsOpen, Ran};
 ghost use Rattle.gr_world.specs.Steps.{Makes, Does, Refuses, Spends, Stays, refused_at};
 ghost use Rattle.gr_world.specs.Stopped.{broken_in};
-ghost use Rattle.gr_world.specs.Disk.{StaysSound, IsClosed, IsBarred, BarsWake, ReopensWhere, IsIdle, UsesDisk, LeavesOthers};
+ghost use Rattle.gr_world.specs.Disk.{StaysSound, IsClosed, IsBarred, IsBarredJoin, BarsWake, ReopensWhere};
+ghost use Rattle.gr_world.specs.Disk.{IsIdle, UsesDisk, LeavesOthers};
 ghost use Rattle.gr_world.specs.Ended.{IsEnd, WakeEnds, EndsAt};
 ghost use Rattle.gr_world.specs.Fits.{GoesOn};
 
@@ -69,6 +70,48 @@ impl World {
         self.noted(answer)
     }
 
+    /// Joins a late subscriber to a publisher: it is logged at the publisher's host, and the subscriber gets the events
+    /// past it.
+    ///
+    /// `Reopen` where a broker is down, or the call would append to a log that the disk has failed. `Disk` only where
+    /// the disk failed in this call; then nothing was sent, and the log answers `Reopen` until its broker crashes.
+    pub fn join<D: SimDisk>(&mut self, disk: &mut D, s: u16, p: u16) -> Result<Reports, WorldFault>
+        requires fits { IsWorld self.old }
+        requires publisher { p < length self.old.topo.publishers }
+        requires late { late_of self.old.topo s ≡ true }
+        requires lanes { LanesFit (D.lane_of disk.old) self.old }
+        ensures makes { Makes (step.Join s p) self.old self.new result }
+        // With its step and lines it goes on with the run that led here
+        ensures goes_on { GoesOn (step.Join s p) (D.lane_of disk.old) (D.lane_of disk.new)
+            self.old self.new result }
+        ensures refused { Refuses (step.Join s p) self.old self.new result }
+        ensures memory { Spends self.old self.new result }
+        ensures closed { self.old.spent ≡ false → IsClosed self.old self.new result }
+        // `Reopen` exactly where a broker is down, or the disk has failed the log; nothing has changed then
+        ensures reopen { self.old.spent ≡ false → (IsErrOf result WorldFault.Reopen
+            ↔ (IsSome self.old.down ⊎ IsBarredJoin self.old p s)) }
+        ensures unchanged { IsErrOf result WorldFault.Reopen → (self.new ≡ self.old) × (disk.new ≡ disk.old) }
+        // Where the disk fails, the log is broken and all else stands
+        ensures failed { IsErrOf result WorldFault.Disk → self.new ≡ broken_in self.old (host_of self.old.topo p) p }
+        ensures stays { Stays self.old self.new }
+        ensures fits { IsWorld self.new }
+        ensures sound { StaysSound self.old self.new result }
+        ensures disk { UsesDisk (D.faultless disk.old) (D.faultless disk.new) (D.faults disk.old)
+            (D.stops disk.old) (D.faults disk.new) (D.stops disk.new) result }
+        ensures others { LeavesOthers self.old.topo (D.lane_of disk.old) (D.lane_of disk.new) }
+        ensures idle { IsIdle self.old (step.Join s p) → disk.new ≡ disk.old }
+        ensures lanes { LanesFit (D.lane_of disk.new) self.new }
+    {
+        if self.spent {
+            return Err(WorldFault::Memory);
+        }
+        if self.down.is_some() {
+            return Err(WorldFault::Reopen);
+        }
+        let answer = self.join_at_host(disk, s, p);
+        self.noted(answer)
+    }
+
     /// Wakes a broker for each publisher, in order.
     ///
     /// `Reopen` where a broker is down, or the call would append to a log that the disk has failed. `Disk` only where
@@ -85,8 +128,8 @@ impl World {
         ensures refused { Refuses (step.Wake b) self.old self.new result }
         ensures memory { Spends self.old self.new result }
         ensures closed { self.old.spent ≡ false → IsClosed self.old self.new result }
-        // Unless a call for an earlier publisher failed, `Reopen` comes exactly where a broker is down, or a publisher's
-        // log is to be appended to that the disk has failed
+        // Unless a call for an earlier publisher failed, `Reopen` comes exactly where a broker is down, or a
+        // publisher's log is to be appended to that the disk has failed
         ensures reopen { self.old.spent ≡ false
             → ReopensWhere (IsSome self.old.down ⊎ BarsWake self.old b) result }
         // Where it ends at a log, the publishers before were woken, and that one's wake has ended

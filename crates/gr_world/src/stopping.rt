@@ -125,8 +125,8 @@ impl World {
         ensures passes { tick_in (log_said (log_at self.old p)) number self.old.clock ≡ None
             → Does (publish_now (net_in self.old) (world_of self.old) p number event.now) self.new result }
         // With its step and lines it goes on with the run that led here
-        ensures goes_on { GoesOn (step.Publish p number (Some stop.now) event.now) (D.lane_of disk.old) (D.lane_of disk.new)
-            self.old self.new result }
+        ensures goes_on { GoesOn (step.Publish p number (Some stop.now) event.now) (D.lane_of disk.old)
+            (D.lane_of disk.new) self.old self.new result }
         ensures refused { Refuses (step.Publish p number (Some stop.now) event.now) self.old self.new result }
         ensures memory { Spends self.old self.new result }
         ensures closed { self.old.spent ≡ false

@@ -1,6 +1,7 @@
 //! A sweep: the clock moves far ahead, and everything settles.
 
-ghost use Rattle.std.specs.Prelude.{◌≡◌, ◌⊎◌, ℕ, ◌<◌, ◌≤◌, false, List, length, None, Err, IsErr, IsErrOf, IsSome, IfOk};
+ghost use Rattle.std.specs.Prelude.{◌≡◌, ◌⊎◌, ℕ, ◌<◌, ◌≤◌, false, List, length, None, Err, IsErr, IsErrOf};
+ghost use Rattle.std.specs.Prelude.{IsSome, IfOk};
 ghost use Rattle.gr_sched.specs.declared.step.Line.{Line};
 ghost use Rattle.gr_sched.specs.declared.step.Step.TheVariants as step;
 ghost use Rattle.gr_model.specs.declared.report.Report.{Report as MachineReport};
@@ -313,8 +314,8 @@ impl World {
         // sweep marks each
         ensures reopen { self.old.spent ≡ false → refused_at self.old step.Sweep ≡ None
             → ReopensWhere (IsSome self.old.down ⊎ HasBroken self.old) result }
-        // Where it ends at a log, the clock stands at its moment, the publishers before were swept, and the sweep of that
-        // one has ended at a wake
+        // Where it ends at a log, the clock stands at its moment, the publishers before were swept, and the sweep of
+        // that one has ended at a wake
         ensures ends { let net = net_in self.old in self.old.down ≡ None → IsEnd result
             → EndsAt (sweep_for net) (SweepEnds net result) (numbers net.publishers)
             (at_moment self.old (sweep_moment net (world_of self.old))) self.new }

@@ -1,4 +1,4 @@
-use Rattle.std.proofs.Common.{◌-◌, ◌+◌, ◌<◌, true, false, length, Ok, Err, sym, ◌∙◌, arith}
+use Rattle.std.proofs.Common.{◌-◌, ◌+◌, ◌<◌, length, Ok, Err, sym, ◌∙◌, arith}
 use Rattle.gr_model.specs.World.{is_want, deliver_up}
 use Rattle.gr_world.specs.Seen.{net_in, world_of}
 use Rattle.gr_world.specs.Sweeps.{wants_past, with_wants}
