@@ -17,8 +17,8 @@ use Rattle.gr_scenario.specs.Steps.{IsStepOf, AreStepsOf}
 use Rattle.gr_topo.specs.Topology.{TopologyView, host_of}
 use Rattle.gr_model.specs.Net.{numbers_from}
 use Rattle.gr_model.specs.NetOf.{net_of}
-use Rattle.gr_model.specs.Arrivals.{Arrival, datagram, quiet, Publish, publisher_of, submitted_in, is_hosted, is_scheduled, publishes_of, left_after}
-use Rattle.gr_node.specs.Plan.{Call, gets, publishes, wakes, Act, calls, settles, shows, is_ours, publish_calls, wake_calls, quiet_calls, submit_acts, note_acts, datagram_acts, acts_of, settling, led_to, acts_from, closing, turn_acts, run_acts}
+use Rattle.gr_model.specs.Arrivals.{Arrival, datagram, quiet, Publish, Request, asks_publish, asks_join, publisher_of, submitted_in, is_hosted, is_scheduled, requests_of, left_after}
+use Rattle.gr_node.specs.Plan.{Call, gets, publishes, wakes, Act, calls, settles, shows, is_ours, call_of, request_calls, wake_calls, quiet_calls, submit_acts, note_acts, datagram_acts, acts_of, settling, led_to, acts_from, closing, turn_acts, run_acts}
 use Rattle.gr_node.proofs.Moving.{IsCallOf, IsActOf}
 use Rattle.gr_node.proofs.Notes.{submits}
 
@@ -34,34 +34,39 @@ all_append P [] ys a b = b
 all_append P (x ∷ xs) ys a b = (a.0, all_append P xs ys a.1 b)
 
 module _ (t : TopologyView) (hosted : List ℕ) where
-  -- Publishes
+  -- Requests
 
-  abbrev ArePublishes : List Publish → Type 0
-  ArePublishes left = AllByRecursion (λ x. IsCallOf t hosted (publishes x)) left
+  abbrev AreRequests : List Request → Type 0
+  AreRequests left = AllByRecursion (λ x. IsCallOf t hosted (call_of x)) left
 
-  publish_of : (s : Step) → IsStepOf t s → ArePublishes (elim s [
-    | step.Publish p number stop e ↦ if is_scheduled (net_of t) hosted p then (p, (number, e)) ∷ [] else []
+  request_of : (s : Step) → IsStepOf t s → AreRequests (elim s [
+    | step.Publish p number stop e ↦ if is_scheduled (net_of t) hosted p then asks_publish p number e ∷ [] else []
+    | step.Join s p ↦ if is_hosted (net_of t) hosted p then asks_join s p ∷ [] else []
     | _ ↦ []
   ])
-  publish_of (step.Publish p number stop e) h = go (is_scheduled (net_of t) hosted p) refl
+  request_of (step.Publish p number stop e) h = go (is_scheduled (net_of t) hosted p) refl
     where
-      go : (q : Bool) → is_scheduled (net_of t) hosted p ≡ q → ArePublishes (if q then (p, (number, e)) ∷ [] else [])
+      go : (q : Bool) → is_scheduled (net_of t) hosted p ≡ q → AreRequests (if q then asks_publish p number e ∷ [] else [])
       go true k = ((h.0, (and_parts (is_hosted (net_of t) hosted p) _ k).0), tt)
       go false k = tt
-  publish_of (step.Clock now) h = tt
-  publish_of (step.Wake b) h = tt
-  publish_of (step.Deliver frame) h = tt
-  publish_of (step.Crash b) h = tt
-  publish_of step.Sweep h = tt
-  publish_of step.Show h = tt
-  publish_of (step.Bytes frame) h = tt
-  publish_of (step.Join s p) h = tt
+  request_of (step.Join s p) h = go (is_hosted (net_of t) hosted p) refl
+    where
+      go : (q : Bool) → is_hosted (net_of t) hosted p ≡ q → AreRequests (if q then asks_join s p ∷ [] else [])
+      go true k = ((h.2, k), tt)
+      go false k = tt
+  request_of (step.Clock now) h = tt
+  request_of (step.Wake b) h = tt
+  request_of (step.Deliver frame) h = tt
+  request_of (step.Crash b) h = tt
+  request_of step.Sweep h = tt
+  request_of step.Show h = tt
+  request_of (step.Bytes frame) h = tt
 
-  publishes_are : (steps : List Line) → AreStepsOf t steps → ArePublishes (publishes_of (net_of t) hosted steps)
-  publishes_are [] a = tt
-  publishes_are (l ∷ ls) a = all_append (λ x. IsCallOf t hosted (publishes x)) _ _ (publish_of l.step a.0) (publishes_are ls a.1)
+  requests_are : (steps : List Line) → AreStepsOf t steps → AreRequests (requests_of (net_of t) hosted steps)
+  requests_are [] a = tt
+  requests_are (l ∷ ls) a = all_append (λ x. IsCallOf t hosted (call_of x)) _ _ (request_of l.step a.0) (requests_are ls a.1)
 
-  left_are : (left : List Publish) (a : Arrival) → ArePublishes left → ArePublishes (left_after left a)
+  left_are : (left : List Request) (a : Arrival) → AreRequests left → AreRequests (left_after left a)
   left_are left (datagram b bytes moment) h = h
   left_are [] (quiet moment) h = tt
   left_are (x ∷ left) (quiet moment) h = h.1
@@ -71,7 +76,7 @@ module _ (t : TopologyView) (hosted : List ℕ) where
   abbrev AreCalls : List Call → Type 0
   AreCalls cs = AllByRecursion (IsCallOf t hosted) cs
 
-  first_is : (left : List Publish) → ArePublishes left → AreCalls (publish_calls left)
+  first_is : (left : List Request) → AreRequests left → AreCalls (request_calls left)
   first_is [] h = tt
   first_is (x ∷ left) h = (h.0, tt)
 
@@ -86,9 +91,9 @@ module _ (t : TopologyView) (hosted : List ℕ) where
       (wakes_of b 0 (length t.publishers) (h b (or_left (nat_eq b b) (is_among bs b) (eq-eqb b b refl))) (omega arith))
       (wakes_are bs (λ c e. h c (or_right (nat_eq b c) (is_among bs c) e)))
 
-  quiet_are : (left : List Publish) → ArePublishes left → AreCalls (quiet_calls (net_of t) hosted left)
+  quiet_are : (left : List Request) → AreRequests left → AreCalls (quiet_calls (net_of t) hosted left)
   quiet_are left h =
-      all_append (IsCallOf t hosted) (publish_calls left) (flat_map (wake_calls (length t.publishers)) hosted) (first_is left h) (wakes_are hosted (λ b e. e))
+      all_append (IsCallOf t hosted) (request_calls left) (flat_map (wake_calls (length t.publishers)) hosted) (first_is left h) (wakes_are hosted (λ b e. e))
 
   -- Acts
 
@@ -118,7 +123,7 @@ module _ (t : TopologyView) (hosted : List ℕ) where
       go true = note_are b (note_decoded bytes) here
       go false = (here, tt)
 
-  arrival_are : (left : List Publish) (a : Arrival) → ArePublishes left → AreActs (acts_of (net_of t) hosted left a)
+  arrival_are : (left : List Request) (a : Arrival) → AreRequests left → AreActs (acts_of (net_of t) hosted left a)
   arrival_are left (datagram b bytes moment) h = go (is_among hosted b) refl
     where
       go : (q : Bool) → is_among hosted b ≡ q → AreActs (if q then datagram_acts (net_of t) b bytes else [])
@@ -133,7 +138,7 @@ module _ (t : TopologyView) (hosted : List ℕ) where
       go true = (tt, tt)
       go false = tt
 
-  came_are : (left : List Publish) (came : List Arrival) → ArePublishes left → AreActs (acts_from (net_of t) hosted left came)
+  came_are : (left : List Request) (came : List Arrival) → AreRequests left → AreActs (acts_from (net_of t) hosted left came)
   unfolding acts_from
   came_are left [] h = tt
   came_are left (a ∷ came) h = (
@@ -152,6 +157,6 @@ module _ (t : TopologyView) (hosted : List ℕ) where
   acts_are steps came closed a =
       let turns : AreActs (turn_acts (net_of t) hosted steps came closed ++ shows ∷ []) =
       all_append (IsActOf t hosted) (turn_acts (net_of t) hosted steps came closed) (shows ∷ [])
-      (all_append (IsActOf t hosted) (acts_from (net_of t) hosted (publishes_of (net_of t) hosted steps) came) (closing closed)
-      (came_are (publishes_of (net_of t) hosted steps) came (publishes_are steps a)) (closing_is closed)) (tt, tt) in
+      (all_append (IsActOf t hosted) (acts_from (net_of t) hosted (requests_of (net_of t) hosted steps) came) (closing closed)
+      (came_are (requests_of (net_of t) hosted steps) came (requests_are steps a)) (closing_is closed)) (tt, tt) in
       (tt, turns)

@@ -13,7 +13,7 @@ use Rattle.gr_topo.specs.Topology.{TopologyView}
 use Rattle.gr_model.specs.Net.{Net}
 use Rattle.gr_model.specs.NetOf.{net_of}
 use Rattle.gr_model.specs.World.{log_of as machine_log_of}
-use Rattle.gr_model.specs.Arrivals.{Publish, publishes_of}
+use Rattle.gr_model.specs.Arrivals.{Request, requests_of}
 use Rattle.gr_node.specs.Lasting.{Lasts}
 use Rattle.gr_node.specs.Plan.{Act, binds, starts, settles, shows, acts_from, closing, nodes, plan, all_entries}
 use Rattle.gr_node.specs.Turns.{left_behind}
@@ -34,14 +34,14 @@ upto_are_first t hosted steps c k = record {
       ∙ ap (λ acts. started ++ (settles ∷ acts))
       (sym (append_assoc upto behind (closing c.closed ++ shows ∷ []))
       ∙ (ap (λ acts. acts ++ (closing c.closed ++ shows ∷ [])) (sym all)
-      ∙ sym (append_assoc (acts_from net hosted publishes c.came) (closing c.closed) (shows ∷ [])))));
+      ∙ sym (append_assoc (acts_from net hosted requests c.came) (closing c.closed) (shows ∷ [])))));
 }
   where
     net : Net
     net = net_of t
 
-    publishes : List Publish
-    publishes = publishes_of net hosted steps
+    requests : List Request
+    requests = requests_of net hosted steps
 
     bound : List Act
     bound = map binds (nodes t hosted)
@@ -50,13 +50,13 @@ upto_are_first t hosted steps c k = record {
     started = map starts hosted
 
     upto : List Act
-    upto = acts_from net hosted publishes (take k c.came)
+    upto = acts_from net hosted requests (take k c.came)
 
     behind : List Act
-    behind = acts_from net hosted (left_behind publishes (take k c.came)) (drop k c.came)
+    behind = acts_from net hosted (left_behind requests (take k c.came)) (drop k c.came)
 
-    all : acts_from net hosted publishes c.came ≡ upto ++ behind
-    all = ap (acts_from net hosted publishes) (sym (take-append-drop k c.came)) ∙ acts_later net hosted publishes (take k c.came) (drop k c.came)
+    all : acts_from net hosted requests c.came ≡ upto ++ behind
+    all = ap (acts_from net hosted requests) (sym (take-append-drop k c.came)) ∙ acts_later net hosted requests (take k c.came) (drop k c.came)
 
 -- a further record leaves the last number, or raises it
 last_after : (log : Log) (r : Record) → log.last ≤ (with_entry log r).last

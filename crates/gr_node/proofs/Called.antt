@@ -1,36 +1,41 @@
 -- A broker's call at a node: what the broker tells and leaves is the node's act, each line is named, and each frame goes over an edge
-use Rattle.std.proofs.Common.{◌≡◌, ◌≢◌, ◌⊎◌, inl, inr, ℕ, ◌*◌, ◌<◌, List, [], ◌∷◌, length, Option, None, Result, Ok, Err, OnOk, refl, sym, ap, ◌∙◌, subst}
-use Rattle.std.specs.Prelude.{IfOk}
+use Rattle.std.proofs.Common.{◌≡◌, ◌≢◌, ◌⊎◌, inl, inr, ℕ, ◌*◌, ◌<◌, List, [], ◌∷◌, length, true, Option, Some, None, Result, Ok, Err, OnOk, refl, sym, ap, ◌∙◌, subst}
+use Rattle.std.specs.Prelude.{IfOk, is_some}
 use Rattle.std.specs.List.{AllByRecursion}
-use Rattle.std.proofs.lemmas.Bool.{cases_eq}
+use Rattle.std.proofs.lemmas.Bool.{and_from, cases_eq, false≢true}
 use Rattle.gr_event.specs.declared.event.Event.{Event}
+use Rattle.gr_event.specs.Joins.{Joins}
 use Rattle.gr_out.specs.declared.fault.RunFault.{RunFault}
 use Rattle.gr_out.specs.declared.fault.RunFault.TheVariants as run
 use Rattle.gr_out.specs.Lane.{Lane}
+use Rattle.gr_publog.specs.declared.record.Record.{Record}
 use Rattle.gr_publog.specs.Crash.{LogView}
 use Rattle.gr_publog.specs.Calls.{Leaves}
-use Rattle.gr_topo.specs.Topology.{TopologyView, host_of}
+use Rattle.gr_topo.specs.Topology.{TopologyView, host_of, late_of}
 use Rattle.gr_model.specs.Tree.{IsNet}
 use Rattle.gr_model.specs.NetOf.{net_of, IsOrderly}
-use Rattle.gr_model.specs.Broker.{Outcome as MachineOutcome}
+use Rattle.gr_model.specs.Net.{Net, all_late}
+use Rattle.gr_model.specs.Broker.{View, Log, Outcome as MachineOutcome, seen, view_joined}
 use Rattle.gr_model.specs.Text.{IsNamed}
 use Rattle.gr_model_calls.specs.Edges.{GoesOverEdge}
-use Rattle.gr_model_calls.proofs.topology.Strays.{publish_on, wake_on}
+use Rattle.gr_model_calls.proofs.calls.Held.{all_late_on}
+use Rattle.gr_model_calls.proofs.runs.Worlds.{Each}
+use Rattle.gr_model_calls.proofs.topology.Strays.{publish_on, joining_on, wake_on}
 use Rattle.gr_broker_relay.specs.declared.outcome.Outcome.{Outcome}
 use Rattle.gr_broker_relay.specs.Told.{Tells}
 use Rattle.gr_broker.specs.declared.outcome.BrokerFault.{BrokerFault}
 use Rattle.gr_broker.specs.declared.outcome.BrokerFault.TheVariants as refused
-use Rattle.gr_broker.specs.Seen.{BrokerView, view_in, log_in, machine_log, with_logged, broken_at}
+use Rattle.gr_broker.specs.Seen.{BrokerView, view_in, log_in, log_said, machine_log, with_logged, logged_at, broken_at}
 use Rattle.gr_broker.specs.Of.{IsBrokerOf, LogsStand}
 use Rattle.gr_broker.specs.Told.{log_answer}
-use Rattle.gr_broker.specs.Hosted.{publish_at, publish_logs_at, after_publish, wake_at, mark_logs_at, cut_logs_at, after_mark, after_wake, WakeLeaves}
+use Rattle.gr_broker.specs.Hosted.{publish_at, publish_logs_at, after_publish, join_at, join_logs_at, after_join, wake_at, mark_logs_at, cut_logs_at, after_mark, after_wake, WakeLeaves}
 use Rattle.gr_report.specs.Named.{AllNamed}
-use Rattle.gr_report.proofs.Names.{publish_named, wake_named}
+use Rattle.gr_report.proofs.Names.{publish_named, joining_named, wake_named, names_with, orderly_with}
 use Rattle.gr_report.proofs.Named.{names_of, all_of}
-use Rattle.gr_report.proofs.Passing.{over_edges}
+use Rattle.gr_report.proofs.Passing.{seen_edges}
 use Rattle.gr_node.specs.Seen.{NodeView}
 use Rattle.gr_node.specs.Of.{NodeFits, AllStand, OthersStay}
-use Rattle.gr_node.specs.Plan.{publishes, wakes}
+use Rattle.gr_node.specs.Plan.{Call, publishes, joins, wakes}
 use Rattle.gr_node.specs.Done.{done_by, done_at, taken_up, call_done}
 use Rattle.gr_node.specs.Went.{Makes}
 use Rattle.gr_node.specs.Calling.{Follows}
@@ -54,19 +59,57 @@ if_ok P answer told e h = subst (λ (r : Result Outcome BrokerFault). IfOk r P) 
 on_ok : (X : Type 0) (answer : Result Outcome BrokerFault) (told : Outcome) → answer ≡ Ok told → OnOk (log_answer answer) X → X
 on_ok X answer told e h = subst (λ (r : Result Outcome BrokerFault). OnOk (log_answer r) X) e h
 
--- What a publish gives
-pub record Publishes (t : TopologyView) (x : BrokerView) (p now number : ℕ) (e : Event) (after : BrokerView) (answer : Result Outcome BrokerFault) : Type 0 where
-  pub told : IfOk answer (Tells (publish_at t x p now number e))
-  pub leaves : Leaves x (after_publish t x p now number e) (broken_at x p) after (log_answer answer)
+-- What a call of the broker at which a publisher is gives, by its outcome and the record that it logs
+pub record HostGives (x : BrokerView) (p : ℕ) (o : MachineOutcome) (r : Option Record) (t : TopologyView) (after : BrokerView) (answer : Result Outcome BrokerFault) : Type 0 where
+  pub told : IfOk answer (Tells o)
+  pub leaves : Leaves x (logged_at x p r o.view) (broken_at x p) after (log_answer answer)
   pub fits : IsBrokerOf t after
 
+-- what the broker holds of the publisher has the joins of late subscribers alone
+holds_late : (t : TopologyView) (x : BrokerView) (p : ℕ) → IsBrokerOf t x → p < length t.publishers → all_late (net_of t) (view_in x p).joins ≡ true
+holds_late t x p is below = (is.kept p below).joins
+
+module _ (t : TopologyView) (n : NodeView) (p : ℕ) (x after : BrokerView) (bs : List (Option BrokerView)) (s : Place t n (host_of t p) x after bs) (below : p < length t.publishers)
+    (answer : Result Outcome BrokerFault) (result : Result Outcome RunFault) (f : Follows answer result) (o : MachineOutcome) (r : Option Record) (k : HostGives x p o r t after answer) where
+  left : (told : Outcome) → answer ≡ Ok told → after ≡ logged_at x p r o.view
+  left told h = on_ok (after ≡ logged_at x p r o.view) answer told h k.leaves.ok
+
+  makes_at_host : (c : Call) → (after ≡ logged_at x p r o.view → call_done t n c ≡ taken_up n (host_of t p) after o.lines o.frames)
+      → Each (GoesOverEdge (net_of t)) o.frames → Each (IsNamed t) o.lines → IfOk result (Makes t n c (with_brokers n bs))
+  makes_at_host c done over named =
+      follows (λ (r : Result Outcome RunFault). IfOk r (Makes t n c (with_brokers n bs))) answer result f
+      (λ told h. let tells : Tells o told = if_ok (Tells o) answer told h k.told in
+      makes_on t n (host_of t p) x after bs s c o.lines o.frames told (done (left told h)) tells.lines tells.spelled (all_of (GoesOverEdge (net_of t)) o.frames over) (all_of (IsNamed t) o.lines named))
+      (λ h. tt) (λ h. tt)
+
+  pub fits_at_host : OnOk result (NodeFits t (with_brokers n bs))
+  fits_at_host =
+      follows (λ (r : Result Outcome RunFault). OnOk r (NodeFits t (with_brokers n bs))) answer result f
+      (λ told h. fits_on t n (host_of t p) x after bs s k.fits (ap (λ (y : BrokerView). y.number) (left told h)) (subst IsWhole (sym (left told h)) whole)) (λ h. tt) (λ h. tt)
+    where
+      x_whole : IsWhole x
+      x_whole = place_whole t n (host_of t p) x after bs s
+
+      whole : IsWhole (logged_at x p r o.view)
+      whole = whole_with x p (with_logged (log_in x p) r) o.view (place_log t n (host_of t p) x after bs s p below) (whole_logged (log_in x p) r ∙ x_whole p) x_whole
+
+  module _ (lanes lanes' : ℕ → Lane) (others : (m : ℕ) → m ≢ 2 * p → lanes' m ≡ lanes m) where
+    moves : (m : ℕ) → (host_of t p ≡ host_of t p → m ≢ 2 * p) → lanes' m ≡ lanes m
+    moves m clear = others m (clear refl)
+
+    pub stands_at_host : AllStand lanes n → LogsStand lanes' after → OnOk result (AllStand lanes' (with_brokers n bs))
+    stands_at_host all a =
+        follows (λ (r : Result Outcome RunFault). OnOk r (AllStand lanes' (with_brokers n bs))) answer result f
+        (λ told h. stands_on t n (host_of t p) x after bs s p below lanes lanes' moves all a) (λ h. tt) (λ h. tt)
+
+-- What a publish gives
+abbrev pub Publishes : (t : TopologyView) (x : BrokerView) (p now number : ℕ) (e : Event) (after : BrokerView) (answer : Result Outcome BrokerFault) → Type 0
+Publishes t x p now number e after answer = HostGives x p (publish_at t x p now number e) (publish_logs_at x p now number e) t after answer
+
 module _ (t : TopologyView) (n : NodeView) (p number : ℕ) (e : Event) (x after : BrokerView) (bs : List (Option BrokerView)) (s : Place t n (host_of t p) x after bs) (below : p < length t.publishers)
-    (answer : Result Outcome BrokerFault) (result : Result Outcome RunFault) (f : Follows answer result) (k : Publishes t x p n.now number e after answer) where
+    (answer : Result Outcome BrokerFault) (result : Result Outcome RunFault) (f : Follows answer result) (k : HostGives x p (publish_at t x p n.now number e) (publish_logs_at x p n.now number e) t after answer) where
   abbrev outcome : MachineOutcome
   outcome = publish_at t x p n.now number e
-
-  left : (told : Outcome) → answer ≡ Ok told → after ≡ after_publish t x p n.now number e
-  left told h = on_ok (after ≡ after_publish t x p n.now number e) answer told h k.leaves.ok
 
   -- the node's act
   done : after ≡ after_publish t x p n.now number e → call_done t n (publishes (p, (number, e))) ≡ taken_up n (host_of t p) after outcome.lines outcome.frames
@@ -77,38 +120,44 @@ module _ (t : TopologyView) (n : NodeView) (p number : ℕ) (e : Event) (x after
 
   pub makes_publish : IsNet (net_of t) → IsOrderly (net_of t) → IfOk result (Makes t n (publishes (p, (number, e))) (with_brokers n bs))
   makes_publish tree orderly =
-      follows (λ (r : Result Outcome RunFault). IfOk r (Makes t n (publishes (p, (number, e))) (with_brokers n bs))) answer result f
-      (λ told h. let tells : Tells outcome told = if_ok (Tells outcome) answer told h k.told in
-      makes_on t n (host_of t p) x after bs s (publishes (p, (number, e))) outcome.lines outcome.frames told (done (left told h)) tells.lines tells.spelled over named)
-      (λ h. tt) (λ h. tt)
-    where
-      over : AllByRecursion (GoesOverEdge (net_of t)) outcome.frames
-      over = all_of (GoesOverEdge (net_of t)) outcome.frames
-          (publish_on (net_of t) p x.number n.now number (GoesOverEdge (net_of t)) e (view_in x p) (machine_log x p) (over_edges (net_of t) p x.number tree below (place_broker t n (host_of t p) x after bs s).number))
+      let net : Net = net_of t in
+      let is : IsBrokerOf t x = place_broker t n (host_of t p) x after bs s in
+      let v : View = view_in x p in
+      makes_at_host t n p x after bs s below answer result f outcome (publish_logs_at x p n.now number e) k (publishes (p, (number, e))) done
+      (publish_on (seen net v) p x.number n.now number (GoesOverEdge net) e v (machine_log x p) (seen_edges net v p x.number tree below is.number (holds_late t x p is below)))
+      (publish_named (seen net v) (IsNamed t) p x.number n.now number e v (machine_log x p) (names_with net _ (IsNamed t) (names_of t)) (orderly_with net _ orderly) below)
 
-      named : AllNamed t outcome.lines
-      named = all_of (IsNamed t) outcome.lines (publish_named (net_of t) (IsNamed t) p x.number n.now number e (view_in x p) (machine_log x p) (names_of t) orderly below)
+-- the log of the publisher has the joins that the broker holds
+joins_held : (t : TopologyView) (x : BrokerView) (p : ℕ) → IsBrokerOf t x → is_some (log_in x p) ≡ true → (view_in x p).joins ≡ (machine_log x p).joins
+joins_held t x p is some = go (log_in x p) refl some
+  where
+    go : (l : Option LogView) → log_in x p ≡ l → is_some l ≡ true → (view_in x p).joins ≡ (log_said l).joins
+    go None e none = absurd (false≢true none)
+    go (Some l) e some = is.joined p l e
 
-  pub fits_publish : OnOk result (NodeFits t (with_brokers n bs))
-  fits_publish =
-      follows (λ (r : Result Outcome RunFault). OnOk r (NodeFits t (with_brokers n bs))) answer result f
-      (λ told h. fits_on t n (host_of t p) x after bs s k.fits (ap (λ (y : BrokerView). y.number) (left told h)) (subst IsWhole (sym (left told h)) whole)) (λ h. tt) (λ h. tt)
-    where
-      x_whole : IsWhole x
-      x_whole = place_whole t n (host_of t p) x after bs s
+module _ (t : TopologyView) (n : NodeView) (p q : ℕ) (x after : BrokerView) (bs : List (Option BrokerView)) (s : Place t n (host_of t p) x after bs) (below : p < length t.publishers)
+    (answer : Result Outcome BrokerFault) (result : Result Outcome RunFault) (f : Follows answer result) (k : HostGives x p (join_at t x p q n.now) (join_logs_at x p q n.now) t after answer) where
+  abbrev outcome_joined : MachineOutcome
+  outcome_joined = join_at t x p q n.now
 
-      whole : IsWhole (after_publish t x p n.now number e)
-      whole = whole_with x p (with_logged (log_in x p) (publish_logs_at x p n.now number e)) outcome.view (place_log t n (host_of t p) x after bs s p below)
-          (whole_logged (log_in x p) (publish_logs_at x p n.now number e) ∙ x_whole p) x_whole
+  -- the node's act
+  done_joined : after ≡ after_join t x p q n.now → call_done t n (joins q p) ≡ taken_up n (host_of t p) after outcome_joined.lines outcome_joined.frames
+  unfolding call_done done_at
+  done_joined h =
+      ap (λ (o : Option BrokerView). done_by t n (host_of t p) o (joins q p)) s.here
+      ∙ ap (λ (y : BrokerView). taken_up n (host_of t p) y outcome_joined.lines outcome_joined.frames) (sym h)
 
-  module _ (lanes lanes' : ℕ → Lane) (others : (m : ℕ) → m ≢ 2 * p → lanes' m ≡ lanes m) where
-    moves : (m : ℕ) → (host_of t p ≡ host_of t p → m ≢ 2 * p) → lanes' m ≡ lanes m
-    moves m clear = others m (clear refl)
-
-    pub stands_publish : AllStand lanes n → LogsStand lanes' after → OnOk result (AllStand lanes' (with_brokers n bs))
-    stands_publish all a =
-        follows (λ (r : Result Outcome RunFault). OnOk r (AllStand lanes' (with_brokers n bs))) answer result f
-        (λ told h. stands_on t n (host_of t p) x after bs s p below lanes lanes' moves all a) (λ h. tt) (λ h. tt)
+  pub makes_join : IsNet (net_of t) → IsOrderly (net_of t) → q < length t.subscribers → late_of t q ≡ true → is_some (log_in x p) ≡ true → IfOk result (Makes t n (joins q p) (with_brokers n bs))
+  makes_join tree orderly there late some =
+      let net : Net = net_of t in
+      let is : IsBrokerOf t x = place_broker t n (host_of t p) x after bs s in
+      let log : Log = machine_log x p in
+      let v : View = view_joined log q n.now (view_in x p) in
+      let held : all_late net log.joins ≡ true = subst (λ (js : Joins). all_late net js ≡ true) (joins_held t x p is some) (holds_late t x p is below) in
+      let all : all_late net v.joins ≡ true = all_late_on net log.joins _ held (and_from (late_of t q) true late refl) in
+      makes_at_host t n p x after bs s below answer result f outcome_joined (join_logs_at x p q n.now) k (joins q p) done_joined
+      (joining_on (seen net v) p x.number n.now q (GoesOverEdge net) (view_in x p) log (seen_edges net v p x.number tree below is.number all))
+      (joining_named (seen net v) (IsNamed t) p x.number n.now q (view_in x p) log (names_with net _ (IsNamed t) (names_of t)) (orderly_with net _ orderly) there below)
 
 -- What a wake gives
 pub record Wakes (t : TopologyView) (x : BrokerView) (p now : ℕ) (after : BrokerView) (answer : Result Outcome BrokerFault) : Type 0 where
@@ -137,12 +186,21 @@ module _ (t : TopologyView) (n : NodeView) (b p : ℕ) (x after : BrokerView) (b
       makes_on t n b x after bs s (wakes b p) woken.lines woken.frames told (done_woken (left_woken told h)) tells.lines tells.spelled over named)
       (λ h. tt) (λ h. tt)
     where
-      over : AllByRecursion (GoesOverEdge (net_of t)) woken.frames
-      over = all_of (GoesOverEdge (net_of t)) woken.frames
-          (wake_on (net_of t) p x.number n.now (GoesOverEdge (net_of t)) (view_in x p) (machine_log x p) (over_edges (net_of t) p x.number tree below (place_broker t n b x after bs s).number))
+      net : Net
+      net = net_of t
+
+      v : View
+      v = view_in x p
+
+      is : IsBrokerOf t x
+      is = place_broker t n b x after bs s
+
+      over : AllByRecursion (GoesOverEdge net) woken.frames
+      over = all_of (GoesOverEdge net) woken.frames
+          (wake_on (seen net v) p x.number n.now (GoesOverEdge net) v (machine_log x p) (seen_edges net v p x.number tree below is.number (holds_late t x p is below)))
 
       named : AllNamed t woken.lines
-      named = all_of (IsNamed t) woken.lines (wake_named (net_of t) (IsNamed t) p x.number n.now (view_in x p) (machine_log x p) (names_of t) orderly below)
+      named = all_of (IsNamed t) woken.lines (wake_named (seen net v) (IsNamed t) p x.number n.now v (machine_log x p) (names_with net _ (IsNamed t) (names_of t)) (orderly_with net _ orderly) below)
 
   pub fits_wake : OnOk result (NodeFits t (with_brokers n bs))
   fits_wake =

@@ -21,7 +21,7 @@ use Rattle.gr_scenario.specs.Steps.{AreStepsOf}
 use Rattle.gr_topo.specs.Topology.{TopologyView, host_of}
 use Rattle.gr_model.specs.NetOf.{net_of}
 use Rattle.gr_model.specs.World.{World, Transition, in_turn, log_of as machine_log_of}
-use Rattle.gr_model.specs.Arrivals.{is_hosted, publishes_of}
+use Rattle.gr_model.specs.Arrivals.{is_hosted, requests_of}
 use Rattle.gr_model.specs.Orders.{fed, orders_of, without_ordered}
 use Rattle.gr_broker.specs.Seen.{log_in, log_said}
 use Rattle.gr_report.proofs.Passing.{PassesLog, PassesRest}
@@ -253,7 +253,7 @@ module _ (T : Type 0) (t : TopologyView) (hosted : List ℕ) (are : AreHosted t 
       )
     where
       acts : List Act
-      acts = acts_from (net_of t) hosted (publishes_of (net_of t) hosted steps) (take k w.came)
+      acts = acts_from (net_of t) hosted (requests_of (net_of t) hosted steps) (take k w.came)
 
       all : AllByRecursion (IsActOf t hosted) acts
       all = all_front (IsActOf t hosted) acts [] (all_front (IsActOf t hosted) (acts ++ []) (shows ∷ []) (acts_are t hosted steps (take k w.came) false steps_are).1)

@@ -1,4 +1,4 @@
--- The publish that is next among steps: its publisher is at a hosted broker and has no client, and the others are left behind it
+-- The request that is next among steps: its publisher is at a hosted broker, and the others are left behind it
 use Rattle.std.proofs.Common.{◌≡◌, ◌≢◌, ℕ, suc, ◌+◌, ◌<◌, ◌≤◌, Bool, true, false, List, [], ◌∷◌, ◌++◌, length, get_or, drop, Option, Some, None, is_some, ◌&&◌, not, if◌then◌else◌, refl, sym, ap, ◌∙◌, add-one, drop-drop}
 use Rattle.std.proofs.lemmas.List.{drop_all}
 use Rattle.std.proofs.Math.Seq.{drop-cons}
@@ -8,12 +8,12 @@ use Rattle.gr_sched.specs.declared.step.Stop.{Stop}
 use Rattle.gr_sched.specs.declared.step.Step.{Step}
 use Rattle.gr_sched.specs.declared.step.Step.TheVariants as step
 use Rattle.gr_model.specs.Net.{Net}
-use Rattle.gr_model.specs.Arrivals.{quiet, Publish, is_scheduled, publishes_in, publishes_of, left_after}
+use Rattle.gr_model.specs.Arrivals.{quiet, Request, asks_publish, asks_join, is_hosted, is_scheduled, requests_in, requests_of, left_after}
 use Rattle.gr_node.specs.Turns.{IsFirst}
 
--- past the last step there is no publish
-pub none_next : (net : Net) (hosted : List ℕ) (steps : List Line) (next : ℕ) → length steps ≤ next → publishes_of net hosted (drop next steps) ≡ []
-none_next net hosted steps next h = ap (publishes_of net hosted) (drop_all next steps h)
+-- past the last step there is no request
+pub none_next : (net : Net) (hosted : List ℕ) (steps : List Line) (next : ℕ) → length steps ≤ next → requests_of net hosted (drop next steps) ≡ []
+none_next net hosted steps next h = ap (requests_of net hosted) (drop_all next steps h)
 
 -- the steps from a place on are the one there and those behind it
 pub step_there : (steps : List Line) (i : ℕ) (l : Line) → i < length steps → l ≡ get_or steps i l → drop i steps ≡ l ∷ drop (i + 1) steps
@@ -30,27 +30,33 @@ without_client true o e = ap (λ (x : Option (List ℕ)). not (is_some x)) e
 without_client false o e = refl
 
 -- a publish that no schedule makes here is none
-pub none_here : (net : Net) (hosted : List ℕ) (l : Line) (p number : ℕ) (stop : Option Stop) (e : Event) → l.step ≡ step.Publish p number stop e → is_scheduled net hosted p ≡ false → publishes_in net hosted l ≡ []
+pub none_here : (net : Net) (hosted : List ℕ) (l : Line) (p number : ℕ) (stop : Option Stop) (e : Event) → l.step ≡ step.Publish p number stop e → is_scheduled net hosted p ≡ false → requests_in net hosted l ≡ []
 none_here net hosted l p number stop e is h =
-    ap (λ (x : Step). publishes_in net hosted (record { number = l.number; step = x })) is
-    ∙ ap (λ (b : Bool). if b then (p, (number, e)) ∷ [] else []) h
+    ap (λ (x : Step). requests_in net hosted (record { number = l.number; step = x })) is
+    ∙ ap (λ (b : Bool). if b then asks_publish p number e ∷ [] else []) h
 
--- a step that is no publish here is passed over
-pub passed_over : (net : Net) (hosted : List ℕ) (steps : List Line) (at from : ℕ) (l : Line) → at < length steps → l ≡ get_or steps at l → publishes_in net hosted l ≡ []
-    → publishes_of net hosted (drop at steps) ≡ publishes_of net hosted (drop from steps) → publishes_of net hosted (drop (at + 1) steps) ≡ publishes_of net hosted (drop from steps)
+-- and so is a join to a publisher elsewhere
+pub join_elsewhere : (net : Net) (hosted : List ℕ) (l : Line) (s p : ℕ) → l.step ≡ step.Join s p → is_hosted net hosted p ≡ false → requests_in net hosted l ≡ []
+join_elsewhere net hosted l s p is h =
+    ap (λ (x : Step). requests_in net hosted (record { number = l.number; step = x })) is
+    ∙ ap (λ (b : Bool). if b then asks_join s p ∷ [] else []) h
+
+-- a step that is no request here is passed over
+pub passed_over : (net : Net) (hosted : List ℕ) (steps : List Line) (at from : ℕ) (l : Line) → at < length steps → l ≡ get_or steps at l → requests_in net hosted l ≡ []
+    → requests_of net hosted (drop at steps) ≡ requests_of net hosted (drop from steps) → requests_of net hosted (drop (at + 1) steps) ≡ requests_of net hosted (drop from steps)
 passed_over net hosted steps at from l h e none so_far =
-    sym (ap (publishes_of net hosted) (step_there steps at l h e) ∙ ap (λ xs. xs ++ publishes_of net hosted (drop (at + 1) steps)) none) ∙ so_far
+    sym (ap (requests_of net hosted) (step_there steps at l h e) ∙ ap (λ xs. xs ++ requests_of net hosted (drop (at + 1) steps)) none) ∙ so_far
 
--- a step has one publish at most
-one_if : (x : Publish) (here : Bool) → ◌≢◌ {A = List Publish} (if here then x ∷ [] else []) [] → ◌≡◌ {A = List Publish} (if here then x ∷ [] else []) (x ∷ [])
+-- a step has one request at most
+one_if : (x : Request) (here : Bool) → ◌≢◌ {A = List Request} (if here then x ∷ [] else []) [] → ◌≡◌ {A = List Request} (if here then x ∷ [] else []) (x ∷ [])
 one_if x true h = refl
 one_if x false h = absurd (h refl)
 
 -- so behind it the others are left
-left_behind_it : (net : Net) (hosted : List ℕ) (number moment : ℕ) (s : Step) (ls : List Line) → publishes_in net hosted (record { number = number; step = s }) ≢ []
-    → publishes_of net hosted ls ≡ left_after (publishes_in net hosted (record { number = number; step = s }) ++ publishes_of net hosted ls) (quiet moment)
+left_behind_it : (net : Net) (hosted : List ℕ) (number moment : ℕ) (s : Step) (ls : List Line) → requests_in net hosted (record { number = number; step = s }) ≢ []
+    → requests_of net hosted ls ≡ left_after (requests_in net hosted (record { number = number; step = s }) ++ requests_of net hosted ls) (quiet moment)
 left_behind_it net hosted number moment (step.Publish p at stop e) ls h =
-    ap (λ (xs : List Publish). left_after (xs ++ publishes_of net hosted ls) (quiet moment)) (sym (one_if (p, (at, e)) (is_scheduled net hosted p) h))
+    ap (λ (xs : List Request). left_after (xs ++ requests_of net hosted ls) (quiet moment)) (sym (one_if (asks_publish p at e) (is_scheduled net hosted p) h))
 left_behind_it net hosted number moment (step.Clock now) ls h = absurd (h refl)
 left_behind_it net hosted number moment (step.Wake b) ls h = absurd (h refl)
 left_behind_it net hosted number moment (step.Deliver f) ls h = absurd (h refl)
@@ -58,13 +64,14 @@ left_behind_it net hosted number moment (step.Crash b) ls h = absurd (h refl)
 left_behind_it net hosted number moment step.Sweep ls h = absurd (h refl)
 left_behind_it net hosted number moment step.Show ls h = absurd (h refl)
 left_behind_it net hosted number moment (step.Bytes f) ls h = absurd (h refl)
-left_behind_it net hosted number moment (step.Join s p) ls h = absurd (h refl)
+left_behind_it net hosted number moment (step.Join s p) ls h =
+    ap (λ (xs : List Request). left_after (xs ++ requests_of net hosted ls) (quiet moment)) (sym (one_if (asks_join s p) (is_hosted net hosted p) h))
 
-left_of : (net : Net) (hosted : List ℕ) (moment : ℕ) (ls : List Line) → IsFirst net hosted ls → publishes_of net hosted (drop 1 ls) ≡ left_after (publishes_of net hosted ls) (quiet moment)
+left_of : (net : Net) (hosted : List ℕ) (moment : ℕ) (ls : List Line) → IsFirst net hosted ls → requests_of net hosted (drop 1 ls) ≡ left_after (requests_of net hosted ls) (quiet moment)
 left_of net hosted moment [] h = refl
 left_of net hosted moment (l ∷ ls) h = left_behind_it net hosted l.number moment l.step ls h
 
--- a quiet moment leaves the publishes behind the next
+-- a quiet moment leaves the requests behind the next
 pub left_next : (net : Net) (hosted : List ℕ) (steps : List Line) (next moment : ℕ) → IsFirst net hosted (drop next steps)
-    → publishes_of net hosted (drop (next + 1) steps) ≡ left_after (publishes_of net hosted (drop next steps)) (quiet moment)
-left_next net hosted steps next moment h = ap (publishes_of net hosted) (sym (drop-drop 1 next steps)) ∙ left_of net hosted moment (drop next steps) h
+    → requests_of net hosted (drop (next + 1) steps) ≡ left_after (requests_of net hosted (drop next steps)) (quiet moment)
+left_next net hosted steps next moment h = ap (requests_of net hosted) (sym (drop-drop 1 next steps)) ∙ left_of net hosted moment (drop next steps) h

@@ -1,12 +1,14 @@
 -- An honest journal makes an honest run: each offer that a plan puts into the journal is of a frame that the lines so far tell, or
 -- of a note, so bytes that were offered to a broker, and are no note, have a number among these lines
-use Rattle.std.proofs.Common.{◌≡◌, ◌⊎◌, inl, inr, ℕ, suc, ◌≤◌, Bool, true, false, ◌&&◌, ◌||◌, List, [], ◌∷◌, ◌++◌, map, length, drop, refl, sym, ap, ap₂, ◌∙◌, subst, Option, Some, None, append-nil, append_assoc}
+use Rattle.std.proofs.Common.{◌≡◌, ◌⊎◌, inl, inr, arith, ℕ, suc, ◌<◌, ◌≤◌, Bool, true, false, ◌&&◌, ◌||◌, List, [], ◌∷◌, ◌++◌, map, length, drop, refl, sym, ap, ap₂, ◌∙◌, subst, Option, Some, None, append-nil, append_assoc}
 use Rattle.std.specs.Prelude.{◌^◌, nat_eq, nat_lt, bytes_eq, if◌then◌else◌, Result, Ok, Err}
 use Rattle.std.specs.List.{list_any, AllByRecursion}
-use Rattle.std.proofs.lemmas.Bool.{cases_Bool, or_cases, or_left, or_right, true≢false}
+use Rattle.std.proofs.lemmas.Bool.{cases_Bool, eqb-true, or_cases, or_left, or_right, true≢false}
 use Rattle.std.proofs.lemmas.List.Folds.{list_any-append}
 use Rattle.std.proofs.lemmas.Slice.Eq.{bytes_eq-Decides}
 use Rattle.std.proofs.Math.Bool.{and-false}
+use Rattle.gr_event.specs.declared.join.Split.{Split}
+use Rattle.gr_event.specs.Joins.{first_split}
 use Rattle.gr_frame.specs.declared.Body.{Body}
 use Rattle.gr_frame.specs.declared.Body.TheVariants as body
 use Rattle.gr_frame.specs.declared.Frame.{Frame}
@@ -23,23 +25,23 @@ use Rattle.gr_note.specs.Nodes.{client_node}
 use Rattle.gr_out.specs.Entry.{Entry}
 use Rattle.gr_out.specs.Entry as entry
 use Rattle.gr_sched.specs.declared.step.Line.{Line}
-use Rattle.gr_topo.specs.Topology.{TopologyView, host_of}
+use Rattle.gr_topo.specs.Topology.{TopologyView, host_of, IsSound}
 use Rattle.gr_model.specs.declared.report.Report.{Report}
 use Rattle.gr_model.specs.declared.report.Report.TheVariants as line
 use Rattle.gr_model.specs.Net.{Net, numbers}
 use Rattle.gr_model.specs.NetOf.{net_of}
-use Rattle.gr_model.specs.Broker.{Log, Outcome, publish, receive, wake}
-use Rattle.gr_model.specs.World.{World, Transition, view_of, log_of, unchanged, absorbed, in_turn, sent_line, sent_lines, sent_since, frames_past, deliver_frame, deliver_frame_by, publish_now_by, wake_for_by}
+use Rattle.gr_model.specs.Broker.{Log, Outcome, publish, joining, receive, wake, seen, taking, view_joined}
+use Rattle.gr_model.specs.World.{World, Transition, view_of, log_of, unchanged, absorbed, in_turn, sent_line, sent_lines, sent_since, frames_past, deliver_frame, deliver_frame_by, publish_now_by, join_now_by, wake_for_by}
 use Rattle.gr_model.specs.Opening.{over_logs}
-use Rattle.gr_model.specs.Arrivals.{Arrival, datagram, quiet, Publish, publishes_of, left_after, fits_broker, least_clash, clash_line, fault_number, takes, receives, takes_by, receives_by, served, served_from, served_from_by, served_by}
+use Rattle.gr_model.specs.Arrivals.{Arrival, datagram, quiet, Request, requests_of, left_after, fits_broker, joins_in, least_clash, clash_line, split_line, fault_number, takes, receives, takes_by, receives_by, served, served_from, served_from_by, served_by}
 use Rattle.gr_model.specs.Headline.{is_sent, sent_number}
 use Rattle.gr_model_theorems.specs.Served.{IsOfBytes, tells_bytes, number_of_bytes, IsHonestAt, IsHonest, IsHonestRun}
-use Rattle.gr_model_theorems.specs.Spelled.{NumbersIn}
+use Rattle.gr_model_theorems.specs.Spelled.{LateIn, NumbersIn}
 use Rattle.gr_model_theorems.specs.Statements.{IsAskedRun}
 use Rattle.gr_model_theorems.specs.Lanes.{AllFollow, whole_logs, IsServedOverLanes}
 use Rattle.gr_model_calls.proofs.rules.Serves.{frames_past_all}
 use Rattle.gr_model_theorems.proofs.headline.ReplyLines.{frame_told}
-use Rattle.gr_node.specs.Plan.{Call, gets, publishes, wakes, Act, binds, starts, arrives, calls, answers, drops, settles, closes, shows, is_ours, ours, called, arrival_acts, acts_from, closing, nodes, plan, act, entry_of, offers_of, reply_to, reply_entry, entries, all_entries}
+use Rattle.gr_node.specs.Plan.{Call, gets, publishes, joins, wakes, Act, binds, starts, arrives, calls, answers, drops, settles, closes, shows, is_ours, ours, called, arrival_acts, acts_from, closing, nodes, plan, act, entry_of, offers_of, reply_to, reply_entry, entries, all_entries}
 use Rattle.gr_node.specs.Served.{Course, planned, is_offer_to, IsHonestEntry, IsHonestJournal}
 use Rattle.gr_node.proofs.Opening.{all_entries_append, settled_entries}
 use Rattle.gr_node.proofs.Planned.{arrival_is, passed_over, none_taken, ours_more, ours_same, begun_as}
@@ -123,15 +125,19 @@ absorbed_tells w b p o =
 delivered_tells : (net : Net) (w : World) (f : Frame) → Tells w (deliver_frame net w f)
 unfolding deliver_frame_by
 delivered_tells net w f =
-    absorbed_tells w f.head.to f.head.publisher (receive net w.clock f (view_of w f.head.to f.head.publisher) (log_of w f.head.publisher))
+    absorbed_tells w f.head.to f.head.publisher (receive (seen net (taking (view_of w f.head.to f.head.publisher) f)) w.clock f (view_of w f.head.to f.head.publisher) (log_of w f.head.publisher))
 
 taken_tells : (net : Net) (w : World) (b : ℕ) (f : Frame) → Tells w (takes net w b f)
 unfolding takes_by
-taken_tells net w b f = go (least_clash (view_of w b f.head.publisher).know f)
+taken_tells net w b f = go (first_split 0 (view_of w b f.head.publisher).joins (joins_in f)) (least_clash (view_of w b f.head.publisher).know f)
   where
-    go : (o : Option ℕ) → Tells w (elim o [ Some t ↦ unchanged w (clash_line b (view_of w b f.head.publisher).know f t ∷ []) | None ↦ deliver_frame net w f ])
-    go None = delivered_tells net w f
-    go (Some t) = none_tells w (clash_line b (view_of w b f.head.publisher).know f t ∷ [])
+    go : (s : Option Split) (o : Option ℕ) → Tells w (elim s [
+      | Some x ↦ unchanged w (split_line b x ∷ [])
+      | None ↦ elim o [ Some t ↦ unchanged w (clash_line b (view_of w b f.head.publisher).know f t ∷ []) | None ↦ deliver_frame net w f ]
+    ])
+    go (Some x) o = none_tells w (split_line b x ∷ [])
+    go None None = delivered_tells net w f
+    go None (Some t) = none_tells w (clash_line b (view_of w b f.head.publisher).know f t ∷ [])
 
 received_tells : (net : Net) (w : World) (b : ℕ) (r : Result Frame FrameFault) → Tells w (receives net w b r)
 unfolding receives_by
@@ -146,12 +152,15 @@ received_tells net w b (Ok f) = go (fits_broker net b f)
     go false = none_tells w stray
 
 called_tells : (net : Net) (w : World) (c : Call) → Tells w (called net w c)
-unfolding publish_now_by wake_for_by
+unfolding publish_now_by join_now_by wake_for_by
 called_tells net w (gets b r) = received_tells net w b r
 called_tells net w (publishes x) =
     let p : ℕ = x.0 in
-    absorbed_tells w (net.host p) p (publish net p (net.host p) w.clock x.1.0 x.1.1 (view_of w (net.host p) p) (log_of w p))
-called_tells net w (wakes b p) = absorbed_tells w b p (wake net p b w.clock (view_of w b p) (log_of w p))
+    absorbed_tells w (net.host p) p (publish (seen net (view_of w (net.host p) p)) p (net.host p) w.clock x.1.0 x.1.1 (view_of w (net.host p) p) (log_of w p))
+called_tells net w (joins s p) =
+    let b : ℕ = net.host p in
+    absorbed_tells w b p (joining (seen net (view_joined (log_of w p) s w.clock (view_of w b p))) p b w.clock s (view_of w b p) (log_of w p))
+called_tells net w (wakes b p) = absorbed_tells w b p (wake (seen net (view_of w b p)) p b w.clock (view_of w b p) (log_of w p))
 
 -- Acts
 
@@ -251,7 +260,7 @@ arrival_honest es ls (datagram b bytes moment) t (inr h) = elim (cases_Bool (beg
 arrival_honest es ls (quiet moment) t h = tt
 
 -- one arrival, where those after it are honest
-arrival_more : (net : Net) (hosted : List ℕ) (left : List Publish) (a : Arrival) (came : List Arrival) (w : World) (es : List Entry) (ls : List Report)
+arrival_more : (net : Net) (hosted : List ℕ) (left : List Request) (a : Arrival) (came : List Arrival) (w : World) (es : List Entry) (ls : List Report)
     → Told es ls → IsHonestEntry es (entry_of a)
     → (let s : Transition = in_turn (act net hosted) (arrival_acts net hosted left a) w in
     IsHonest (ls ++ s.lines) (ours hosted came) (served_from net hosted s.world (left_after left a) (ours hosted came)))
@@ -262,7 +271,7 @@ arrival_more net hosted left a came w es ls told h rest = go (cases_Bool (is_our
     here : List Arrival → Type 0
     here xs = IsHonest ls xs (served_from net hosted w left xs)
 
-    later : List Publish → Transition → Type 0
+    later : List Request → Transition → Type 0
     later ps u = IsHonest (ls ++ u.lines) (ours hosted came) (served_from net hosted u.world ps (ours hosted came))
 
     go : (is_ours hosted a ≡ true) ⊎ (is_ours hosted a ≡ false) → here (ours hosted (a ∷ came))
@@ -271,12 +280,12 @@ arrival_more net hosted left a came w es ls told h rest = go (cases_Bool (is_our
         (arrival_honest es ls a told h, subst (later (left_after left a)) (arrival_is net hosted left a w e) rest)
     go (inr e) =
         let passed : later (left_after left a) (unchanged w []) = subst (later (left_after left a)) (passed_over net hosted left a w e) rest in
-        let same : later left (unchanged w []) = subst (λ (ps : List Publish). later ps (unchanged w [])) (none_taken hosted left a e) passed in
+        let same : later left (unchanged w []) = subst (λ (ps : List Request). later ps (unchanged w [])) (none_taken hosted left a e) passed in
         subst here (sym (ours_same hosted a came e))
         (subst (λ (z : List Report). IsHonest z (ours hosted came) (served_from net hosted w left (ours hosted came))) (append-nil ls) same)
 
 -- so are all that came at the hosted brokers
-arrivals_honest : (t : TopologyView) (hosted : List ℕ) (left : List Publish) (came : List Arrival) (more : List Act) (w : World) (es : List Entry) (ls : List Report)
+arrivals_honest : (t : TopologyView) (hosted : List ℕ) (left : List Request) (came : List Arrival) (more : List Act) (w : World) (es : List Entry) (ls : List Report)
     → Told es ls → IsHonestJournal es (all_entries t hosted w (acts_from (net_of t) hosted left came ++ more))
     → IsHonest ls (ours hosted came) (served_from (net_of t) hosted w left (ours hosted came))
 unfolding acts_from all_entries entries
@@ -302,7 +311,7 @@ unfolding plan served_by
 honest_run t hosted steps came closed logs h =
     let net : Net = net_of t in
     let w : World = over_logs net logs in
-    let left : List Publish = publishes_of net hosted steps in
+    let left : List Request = requests_of net hosted steps in
     let bound : List Act = map binds (nodes t hosted) in
     let begun : List Act = bound ++ map starts hosted in
     let acts : List Act = acts_from net hosted left came in
@@ -328,15 +337,30 @@ bytes_ours hosted (a ∷ came) h = elim (cases_Bool (is_ours hosted a)) [
   | inr e ↦ subst (AllByRecursion IsOfBytes) (sym (ours_same hosted a came e)) (bytes_ours hosted came h.1)
 ]
 
+-- Few subscribers of a topology are late, and their numbers have 16 bits
+pub late_in : (t : TopologyView) → IsSound t → LateIn (net_of t)
+late_in t sound = record {
+  few = omega (arith, sound.limits.late);
+  numbers = λ s late. let below = all_at t.late s sound.late_in late in omega (arith, below, sound.limits.subscribers);
+}
+  where
+    all_at : (ls : List ℕ) (s : ℕ) → AllByRecursion (λ x. x < length t.subscribers) ls → list_any (λ x. nat_eq x s) ls ≡ true → s < length t.subscribers
+    all_at [] s a e = absurd (true≢false (sym e))
+    all_at (x ∷ ls) s a e = elim (or_cases (nat_eq x s) (list_any (λ y. nat_eq y s) ls) e) [
+      | inl same ↦ subst (λ k. k < length t.subscribers) (eqb-true x s same) a.0
+      | inr later ↦ all_at ls s a.1 later
+    ]
+
 -- So a run of all brokers is one that the theorems speak of
-pub is_served : (t : TopologyView) (steps : List Line) (c : Course) → IsAskedRun (net_of t) steps → NumbersIn steps → length t.brokers ≤ 2 ^ 16 → length t.publishers ≤ 2 ^ 16 → AllFollow t.late c.records → AllByRecursion IsOfBytes c.came
-    → IsHonestJournal [] (planned t (numbers (length t.brokers)) steps c) → IsServedOverLanes (net_of t) t.late c.records steps (ours (numbers (length t.brokers)) c.came)
-is_served t steps c asked numbers_in brokers publishers follow bytes honest =
+pub is_served : (t : TopologyView) (steps : List Line) (c : Course) → IsAskedRun (net_of t) steps → NumbersIn steps → length t.brokers ≤ 2 ^ 16 → length t.publishers ≤ 2 ^ 16 → LateIn (net_of t) → AllFollow t.late c.records → AllByRecursion IsOfBytes c.came
+    → IsHonestJournal [] (planned t (numbers (length t.brokers)) steps c) → IsServedOverLanes (net_of t) c.records steps (ours (numbers (length t.brokers)) c.came)
+is_served t steps c asked numbers_in brokers publishers late follow bytes honest =
     let all : List ℕ = numbers (length t.brokers) in
     record {
-      over = record { asked = asked; follow = follow };
+      over = record { asked = asked; few = late.few; follow = follow };
       brokers = brokers;
       publishers = publishers;
+      late = late;
       numbers_in = numbers_in;
       bytes = bytes_ours all c.came bytes;
       honest = honest_run t all steps c.came c.closed (whole_logs c.records) honest;

@@ -10,7 +10,7 @@ use Rattle.gr_broker.specs.Seen.{BrokerView}
 use Rattle.gr_node.specs.Seen.{NodeView, broker_in}
 use Rattle.gr_node.specs.Keeps.{IsServing}
 use Rattle.gr_node.specs.Of.{NodeFits, Hosts, IsSet, AllStand}
-use Rattle.gr_node.specs.Plan.{Call, gets, publishes, wakes}
+use Rattle.gr_node.specs.Plan.{Call, gets, publishes, joins, wakes}
 use Rattle.gr_node.specs.Done.{Done, settled, broker_of, call_done, done_by, done_at}
 use Rattle.gr_node.specs.Went.{Makes}
 
@@ -32,6 +32,7 @@ at_keeps : (t : TopologyView) (n : NodeView) (b : ℕ) (x : BrokerView) (c : Cal
 unfolding done_at
 at_keeps t n b x (gets d r) k e = exchanged n.brokers b k x _ e
 at_keeps t n b x (publishes y) k e = exchanged n.brokers b k x _ e
+at_keeps t n b x (joins s p) k e = exchanged n.brokers b k x _ e
 at_keeps t n b x (wakes d p) k e = exchanged n.brokers b k x _ e
 
 by_keeps : (t : TopologyView) (n : NodeView) (b : ℕ) (o : Option BrokerView) (c : Call) (k : ℕ) → broker_in n b ≡ o → is_some (broker_in (done_by t n b o c).node k) ≡ is_some (broker_in n k)

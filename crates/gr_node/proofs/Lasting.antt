@@ -16,7 +16,7 @@ use Rattle.gr_publog.proofs.Reading.{reads_spelled}
 use Rattle.gr_sched.specs.declared.step.Line.{Line}
 use Rattle.gr_topo.specs.Topology.{TopologyView}
 use Rattle.gr_model.specs.NetOf.{net_of}
-use Rattle.gr_model.specs.Arrivals.{Arrival, publishes_of}
+use Rattle.gr_model.specs.Arrivals.{Arrival, requests_of}
 use Rattle.gr_broker.specs.Seen.{BrokerView, log_in}
 use Rattle.gr_broker.specs.Of.{LogsStand}
 use Rattle.gr_broker.specs.Hosted.{AppendsAt, AppendsTwice, AppendsTwiceAt}
@@ -155,12 +155,12 @@ stood_none t hosted steps n lanes k lt = absurd (omega (arith, lt))
 
 -- the node stood before a turn, and each time before that
 pub stood_on : (t : TopologyView) (hosted : List ℕ) (steps : List Line) (n m : NodeView) (came more : List Arrival) (lanes lanes' : ℕ → Lane) → length more ≤ 1
-    → StoodEachTime t hosted steps n came lanes → m ≡ (all_done t hosted n (acts_from (net_of t) hosted (publishes_of (net_of t) hosted steps) came)).node
+    → StoodEachTime t hosted steps n came lanes → m ≡ (all_done t hosted n (acts_from (net_of t) hosted (requests_of (net_of t) hosted steps) came)).node
     → IsSet t hosted m → AllStand lanes m → ((l : ℕ → Lane) → AllKeep t.late l lanes → AllKeep t.late l lanes') → StoodEachTime t hosted steps n (came ++ more) lanes'
 stood_on t hosted steps n m came more lanes lanes' one each is set stand keeps k lt = go (cases_lt k (length came))
   where
     node : List Arrival → NodeView
-    node before = let d : Done = all_done t hosted n (acts_from (net_of t) hosted (publishes_of (net_of t) hosted steps) before) in d.node
+    node before = let d : Done = all_done t hosted n (acts_from (net_of t) hosted (requests_of (net_of t) hosted steps) before) in d.node
 
     go : (k < length came) ⊎ (length came ≤ k) → StoodAfter t hosted steps n (came ++ more) k lanes'
     go (inl h) =
@@ -183,7 +183,7 @@ stood_on t hosted steps n m came more lanes lanes' one each is set stand keeps k
         }
 
 pub turn_stood : (tells : Type 0) (t : TopologyView) (hosted : List ℕ) (steps : List Line) (n m : NodeView) (came : List Arrival) (lanes lanes' : ℕ → Lane) → (tells → StoodEachTime t hosted steps n came lanes)
-    → m ≡ (all_done t hosted n (acts_from (net_of t) hosted (publishes_of (net_of t) hosted steps) came)).node
+    → m ≡ (all_done t hosted n (acts_from (net_of t) hosted (requests_of (net_of t) hosted steps) came)).node
     → IsSet t hosted m → (tells → AllStand lanes m) → (tells → (l : ℕ → Lane) → AllKeep t.late l lanes → AllKeep t.late l lanes')
     → (more : List Arrival) → length more ≤ 1 → tells → StoodEachTime t hosted steps n (came ++ more) lanes'
 turn_stood tells t hosted steps n m came lanes lanes' each is set stand keeps more one h =

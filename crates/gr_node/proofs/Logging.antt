@@ -6,25 +6,28 @@ use Rattle.std.proofs.lemmas.Bool.{cases_eq, eq-eqb, ne_eqb, lt-leb, le-ltb}
 use Rattle.std.proofs.lemmas.List.{get_or-set_same, get_or-set_other}
 use Rattle.std.proofs.lemmas.List.Elements.{filter-append}
 use Rattle.gr_event.specs.declared.event.Event.{Event}
+use Rattle.gr_event.specs.declared.join.Split.{Split}
+use Rattle.gr_event.specs.Joins.{first_split}
 use Rattle.gr_frame.specs.declared.Body.{Body}
 use Rattle.gr_frame.specs.declared.Body.TheVariants as body
 use Rattle.gr_frame.specs.declared.Frame.{Frame}
 use Rattle.gr_frame.specs.declared.fault.FrameFault.{FrameFault}
 use Rattle.gr_know.specs.Values.{Known}
+use Rattle.gr_pubend.specs.declared.answers.Joined.TheVariants as joined
 use Rattle.gr_pubend.specs.declared.answers.Published.TheVariants as published
 use Rattle.gr_model.specs.declared.report.Report.{Report}
 use Rattle.gr_model.specs.declared.report.Report.TheVariants as line
 use Rattle.gr_model.specs.Net.{Net, is_host, keeps_horizon, not_empty, numbers}
-use Rattle.gr_model.specs.Broker.{View, Log, Outcome, empty_log, max_tick, with_event, got_line, delivery_lines, learn, publish, publish_by, marking, cutting, wake, wake_host, wake_below, asking, receive}
-use Rattle.gr_model.specs.World.{World, Transition, view_of, log_of, absorbed, unchanged, followed_by, in_turn, sent_lines, sent_line, kept_events, publish_now_by, wake_for_by, deliver_frame, deliver_frame_by}
+use Rattle.gr_model.specs.Broker.{View, Log, Outcome, empty_log, max_tick, with_event, with_join, with_joins, silence, got_line, delivery_lines, learn, publish, publish_by, marking, cutting, wake, wake_host, wake_below, asking, receive, joining, joining_by, seen, taking, view_joined}
+use Rattle.gr_model.specs.World.{World, Transition, view_of, log_of, absorbed, unchanged, followed_by, in_turn, sent_lines, sent_line, kept_events, publish_now_by, join_now_by, wake_for_by, deliver_frame, deliver_frame_by}
 use Rattle.gr_model.specs.Headline.{Recorded, publish_line, marked, settling}
 use Rattle.gr_model.specs.Opening.{reopened_line, opened_for, opened_for_by, publishers_at}
-use Rattle.gr_model.specs.Arrivals.{at_moment, fault_number, fits_broker, least_clash, clash_line, takes, takes_by, receives, receives_by, is_hosted, show_hosted}
-use Rattle.gr_model_calls.proofs.calls.HostCases.{publish_cases, news_of}
+use Rattle.gr_model.specs.Arrivals.{at_moment, fault_number, fits_broker, joins_in, least_clash, clash_line, split_line, takes, takes_by, receives, receives_by, is_hosted, show_hosted}
+use Rattle.gr_model_calls.proofs.calls.HostCases.{publish_cases, joining_cases, news_of}
 use Rattle.gr_model_calls.proofs.calls.Calls.{learn_log}
 use Rattle.gr_model_theorems.proofs.records.Records.{core, receive_log, wake_core}
 use Rattle.gr_model_theorems.proofs.records.RecordLines.{Skips, host_lines, receive_none, publish_some, marking_none}
-use Rattle.gr_node.specs.Plan.{gets, publishes, wakes, Act, binds, starts, arrives, calls, answers, drops, settles, closes, shows, is_ours, moment_of, act}
+use Rattle.gr_node.specs.Plan.{gets, publishes, joins, wakes, Act, binds, starts, arrives, calls, answers, drops, settles, closes, shows, is_ours, moment_of, act}
 use Rattle.gr_node.specs.Submitted.{is_logged, logged_as, Logs}
 
 -- What was logged
@@ -207,6 +210,23 @@ module _ (p : ℕ) (P : ℕ → Event → Type 0) where
     other = λ ne. published_unlogged p net q b now number e v log (ne_eqb q p ne);
   }
 
+  -- a join logs no event
+  joining_called : (net : Net) (q b now s : ℕ) (v : View) (log : Log) → Called p P q log (joining net q b now s v log)
+  unfolding learn
+  joining_called net q b now s v log =
+      joining_cases net q b now s v log (λ o. Called p P q log o)
+      (λ has. record { here = λ e. adds_none p P log log _ refl refl refl; other = λ ne. refl })
+      (λ has past. record { here = λ e. adds_none p P log log _ refl refl refl; other = λ ne. refl })
+      (λ has upto.
+      quiet_call q log (joining_by net q b s v log (joined.Logged tick (silence (suc log.settled) tick []))) refl refl
+      (learned_unlogged p net q b (silence (suc log.settled) tick []) (with_joins v next.joins) next))
+    where
+      tick : ℕ
+      tick = max (suc log.settled) now
+
+      next : Log
+      next = with_join log tick s
+
   wake_called : (net : Net) (q b now : ℕ) (v : View) (log : Log) → Called p P q log (wake net q b now v log)
   wake_called net q b now v log =
       let r : core (wake net q b now v log).log ≡ (if is_host net q b then marked net now (core log) else core log) = wake_core net q b now v log in
@@ -289,16 +309,21 @@ module _ (p : ℕ) (P : ℕ → Event → Type 0) where
   delivered_grows : (net : Net) (w : World) (f : Frame) → p < length w.logs → Grows p P w (deliver_frame net w f)
   unfolding deliver_frame_by
   delivered_grows net w f below =
-      absorbed_grows w f.head.to f.head.publisher (receive net w.clock f (view_of w f.head.to f.head.publisher) (log_of w f.head.publisher)) below
-      (receive_called net w.clock f (view_of w f.head.to f.head.publisher) (log_of w f.head.publisher))
+      let shown : Net = seen net (taking (view_of w f.head.to f.head.publisher) f) in
+      absorbed_grows w f.head.to f.head.publisher (receive shown w.clock f (view_of w f.head.to f.head.publisher) (log_of w f.head.publisher)) below
+      (receive_called shown w.clock f (view_of w f.head.to f.head.publisher) (log_of w f.head.publisher))
 
   taken_grows : (net : Net) (w : World) (b : ℕ) (f : Frame) → p < length w.logs → Grows p P w (takes net w b f)
   unfolding takes_by
-  taken_grows net w b f below = go (least_clash (view_of w b f.head.publisher).know f)
+  taken_grows net w b f below = go (first_split 0 (view_of w b f.head.publisher).joins (joins_in f)) (least_clash (view_of w b f.head.publisher).know f)
     where
-      go : (o : Option ℕ) → Grows p P w (elim o [ Some t ↦ unchanged w (clash_line b (view_of w b f.head.publisher).know f t ∷ []) | None ↦ deliver_frame net w f ])
-      go None = delivered_grows net w f below
-      go (Some t) = grows_none w (unchanged w (clash_line b (view_of w b f.head.publisher).know f t ∷ [])) refl refl
+      go : (s : Option Split) (o : Option ℕ) → Grows p P w (elim s [
+        | Some x ↦ unchanged w (split_line b x ∷ [])
+        | None ↦ elim o [ Some t ↦ unchanged w (clash_line b (view_of w b f.head.publisher).know f t ∷ []) | None ↦ deliver_frame net w f ]
+      ])
+      go (Some x) o = grows_none w (unchanged w (split_line b x ∷ [])) refl refl
+      go None None = delivered_grows net w f below
+      go None (Some t) = grows_none w (unchanged w (clash_line b (view_of w b f.head.publisher).know f t ∷ [])) refl refl
 
   received_grows : (net : Net) (w : World) (b : ℕ) (r : Result Frame FrameFault) → p < length w.logs → Grows p P w (receives net w b r)
   unfolding receives_by
@@ -322,7 +347,7 @@ module _ (p : ℕ) (P : ℕ → Event → Type 0) where
     where
       learned : World → Bool → Transition
       learned u c = elim c [
-        | true ↦ absorbed u (net.host q) q (learn net q (net.host q) [] (view_of u (net.host q) q) (log_of u q))
+        | true ↦ absorbed u (net.host q) q (learn (seen net (view_of u (net.host q) q)) q (net.host q) [] (view_of u (net.host q) q) (log_of u q))
         | false ↦ unchanged u []
       ]
 
@@ -335,8 +360,9 @@ module _ (p : ℕ) (P : ℕ → Event → Type 0) where
 
       go : (c : Bool) → Grows p P w (learned w c)
       go true =
-          absorbed_grows w (net.host q) q (learn net q (net.host q) [] (view_of w (net.host q) q) (log_of w q)) below
-          (learn_called net q (net.host q) [] (view_of w (net.host q) q) (log_of w q))
+          let shown : Net = seen net (view_of w (net.host q) q) in
+          absorbed_grows w (net.host q) q (learn shown q (net.host q) [] (view_of w (net.host q) q) (log_of w q)) below
+          (learn_called shown q (net.host q) [] (view_of w (net.host q) q) (log_of w q))
       go false = grows_none w (unchanged w []) refl refl
 
 -- What is shown
@@ -380,7 +406,7 @@ IsFine p P (drops l) = is_logged p l ≡ false
 IsFine p P _ = Unit {0}
 
 pub act_grows : (p : ℕ) (P : ℕ → Event → Type 0) (net : Net) (hosted : List ℕ) (w : World) (a : Act) → p < length w.logs → IsFine p P a → Grows p P w (act net hosted w a)
-unfolding act publish_now_by wake_for_by
+unfolding act publish_now_by join_now_by wake_for_by
 act_grows p P net hosted w (binds b) below h = grows_none p P w (unchanged w []) refl refl
 act_grows p P net hosted w (starts b) below h = grows_each p P {X = ℕ} (λ q. Unit {0}) (opened_for net) (λ u q k t. opened_grows p P net u q k) (publishers_at net (b ∷ [])) w below (all_unit (publishers_at net (b ∷ [])))
   where
@@ -395,10 +421,17 @@ act_grows p P net hosted w (arrives a) below h = go (is_ours hosted a)
 act_grows p P net hosted w (calls (gets b r)) below h = received_grows p P net w b r below
 act_grows p P net hosted w (calls (publishes x)) below h =
     let b : ℕ = net.host x.0 in
-    absorbed_grows p P w b x.0 (publish net x.0 b w.clock x.1.0 x.1.1 (view_of w b x.0) (log_of w x.0)) below
-    (publish_called p P net x.0 b w.clock x.1.0 x.1.1 (view_of w b x.0) (log_of w x.0) h)
+    let shown : Net = seen net (view_of w b x.0) in
+    absorbed_grows p P w b x.0 (publish shown x.0 b w.clock x.1.0 x.1.1 (view_of w b x.0) (log_of w x.0)) below
+    (publish_called p P shown x.0 b w.clock x.1.0 x.1.1 (view_of w b x.0) (log_of w x.0) h)
+act_grows p P net hosted w (calls (joins s q)) below h =
+    let b : ℕ = net.host q in
+    let shown : Net = seen net (view_joined (log_of w q) s w.clock (view_of w b q)) in
+    absorbed_grows p P w b q (joining shown q b w.clock s (view_of w b q) (log_of w q)) below
+    (joining_called p P shown q b w.clock s (view_of w b q) (log_of w q))
 act_grows p P net hosted w (calls (wakes b q)) below h =
-    absorbed_grows p P w b q (wake net q b w.clock (view_of w b q) (log_of w q)) below (wake_called p P net q b w.clock (view_of w b q) (log_of w q))
+    let shown : Net = seen net (view_of w b q) in
+    absorbed_grows p P w b q (wake shown q b w.clock (view_of w b q) (log_of w q)) below (wake_called p P shown q b w.clock (view_of w b q) (log_of w q))
 act_grows p P net hosted w (answers x) below h = grows_none p P w (unchanged w []) refl refl
 act_grows p P net hosted w (drops l) below h = grows_none p P w (unchanged w (l ∷ [])) refl (ap (λ (c : Bool). if c then l ∷ [] else []) h)
 act_grows p P net hosted w settles below h = grows_none p P w (unchanged w []) refl refl

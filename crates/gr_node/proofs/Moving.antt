@@ -6,6 +6,8 @@ use Rattle.std.specs.List.{AllByRecursion}
 use Rattle.std.proofs.lemmas.Bool.{cases_eq, eq-eqb, ne_eqb, eqb-true, ltb-true, and_parts, or_right, true≢false}
 use Rattle.std.proofs.lemmas.List.{get_or-set_same, set-get_or}
 use Rattle.gr_event.specs.declared.event.Event.{Event}
+use Rattle.gr_event.specs.declared.join.Split.{Split}
+use Rattle.gr_event.specs.Joins.{first_split}
 use Rattle.gr_frame.specs.declared.Frame.{Frame}
 use Rattle.gr_frame.specs.declared.fault.FrameFault.{FrameFault}
 use Rattle.gr_out.specs.Entry.{Entry}
@@ -15,28 +17,31 @@ use Rattle.gr_publog.specs.declared.record.Record.{Record}
 use Rattle.gr_publog.specs.Crash.{LogView}
 use Rattle.gr_publog.specs.Calls.{records_with}
 use Rattle.gr_pubend.specs.Log.{log_of as log_made}
-use Rattle.gr_pubend.specs.Answers.{quieted, mark_of, quiet_logs}
+use Rattle.gr_pubend.specs.declared.answers.Joined.{Joined}
+use Rattle.gr_pubend.specs.declared.answers.Joined.TheVariants as answer
+use Rattle.gr_pubend.specs.Answers.{quieted, joined_at, mark_of, quiet_logs, join_of}
+use Rattle.gr_pubend.proofs.Knowing.{log_with_join}
 use Rattle.gr_topo.specs.Topology.{TopologyView, host_of}
 use Rattle.gr_model.specs.declared.report.Report.{Report}
 use Rattle.gr_model.specs.declared.report.Report.TheVariants as line
 use Rattle.gr_model.specs.Net.{Net, is_host, keeps_horizon, numbers}
 use Rattle.gr_model.specs.NetOf.{net_of}
-use Rattle.gr_model.specs.Broker.{View, Log, Outcome as MachineOutcome, empty_log, max_tick, publish, marking, wake, wake_host, wake_below, receive}
-use Rattle.gr_model.specs.World.{World, Transition, view_of, log_of, absorbed, unchanged, in_turn, frames_past, wake_for, wake_for_by, publish_now, publish_now_by, deliver_frame, deliver_frame_by}
-use Rattle.gr_model.specs.Arrivals.{Arrival, at_moment, fault_number, fits_broker, joins_fit, least_clash, clash_line, takes, takes_by, receives, receives_by, is_hosted, show_hosted}
+use Rattle.gr_model.specs.Broker.{View, Log, Outcome as MachineOutcome, empty_log, max_tick, publish, joining, joining_by, learn, marking, wake, wake_host, wake_below, receive, seen, taking, view_joined}
+use Rattle.gr_model.specs.World.{World, Transition, view_of, log_of, absorbed, unchanged, in_turn, frames_past, wake_for, wake_for_by, publish_now, publish_now_by, join_now, join_now_by, deliver_frame, deliver_frame_by}
+use Rattle.gr_model.specs.Arrivals.{Arrival, at_moment, fault_number, fits_broker, joins_in, joins_fit, least_clash, clash_line, split_line, takes, takes_by, receives, receives_by, is_hosted, show_hosted}
 use Rattle.gr_model.specs.Orders.{Order, fed, without_ordered}
 use Rattle.gr_model_calls.proofs.rules.Serves.{frames_past_all}
 use Rattle.gr_model_theorems.proofs.server.CutEvents.{on_log}
-use Rattle.gr_broker.specs.Seen.{BrokerView, view_in, log_in, log_said, machine_log, with_view, with_logged}
-use Rattle.gr_broker.specs.Hosted.{publish_at, publish_logs_at, after_publish, wake_at, mark_logs_at, cut_logs, cut_logs_at, after_wake, logged}
-use Rattle.gr_broker.specs.Receipt.{Receipt, stray, clash, taken, came_at, receipt, receipt_of_fit, after_receipt}
+use Rattle.gr_broker.specs.Seen.{BrokerView, view_in, log_in, log_said, machine_log, with_view, with_logged, logged_at}
+use Rattle.gr_broker.specs.Hosted.{publish_at, publish_logs_at, join_with, join_at, join_logs_at, wake_at, mark_logs_at, cut_logs, cut_logs_at, after_wake, logged}
+use Rattle.gr_broker.specs.Receipt.{Receipt, stray, split, clash, taken, came_at, receipt, receipt_of_fit, after_receipt}
 use Rattle.gr_broker.proofs.Hosted.{marking_log_is, cutting_log_is}
 use Rattle.gr_broker.proofs.Parts.{said_after}
 use Rattle.gr_report.proofs.Along.{flat_map_same}
 use Rattle.gr_report.proofs.Passing.{PassesLog, PassesRest, wake_passes, receive_passes}
 use Rattle.gr_node.specs.Seen.{NodeView, broker_in, records_at, records_in}
 use Rattle.gr_node.specs.Of.{Hosts}
-use Rattle.gr_node.specs.Plan.{Call, gets, publishes, wakes, Act, binds, starts, arrives, calls, answers, drops, settles, closes, shows, is_ours, moment_of, offers_of, reply_entry, called, act, entries, all_entries, told_by, heard_by, told_by_acts}
+use Rattle.gr_node.specs.Plan.{Call, gets, publishes, joins, wakes, Act, binds, starts, arrives, calls, answers, drops, settles, closes, shows, is_ours, moment_of, offers_of, reply_entry, called, act, entries, all_entries, told_by, heard_by, told_by_acts}
 use Rattle.gr_node.specs.Done.{Done, broker_of, taken_up, receipt_lines, receipt_frames, done_by, done_at, call_done, log_shown, log_shown_in, logs_shown, doubt_shown, doubts_by, doubts_shown, shown, done, all_done}
 pub use Rattle.gr_node.proofs.Taken.{IsShaped, IsNode}
 use Rattle.gr_model_theorems.proofs.order.Unheard.{IsUnheard, fed_nothing, fed_unheard, fed_sent, shown_unheard}
@@ -48,6 +53,7 @@ use Rattle.gr_node.proofs.Taken.{node_heard, Does, offers_since, broker_here, sa
 abbrev pub IsCallOf : TopologyView → List ℕ → Call → Type 0
 IsCallOf t hosted (gets b r) = is_among hosted b ≡ true
 IsCallOf t hosted (publishes x) = (x.0 < length t.publishers) × (is_among hosted (host_of t x.0) ≡ true)
+IsCallOf t hosted (joins s p) = (p < length t.publishers) × (is_among hosted (host_of t p) ≡ true)
 IsCallOf t hosted (wakes b p) = (is_among hosted b ≡ true) × (p < length t.publishers)
 
 -- an act once the hosted brokers have started
@@ -93,28 +99,49 @@ said_woken : (t : TopologyView) (x : BrokerView) (p now : ℕ) → is_host (net_
 said_woken t x p now host some = go (log_in x p) some
   where
     go : (s : Option LogView) → is_some s ≡ true
-        → (let m : MachineOutcome = marking (net_of t) p x.number now (view_in x p) (log_said s) in
+        → (let m : MachineOutcome = marking (seen (net_of t) (view_in x p)) p x.number now (view_in x p) (log_said s) in
         log_said (with_logged (with_logged s (mark_of (quieted (log_said s) now t.settings.quiet))) (cut_logs (net_of t) p x.number m.view m.log)))
-        ≡ (let o : MachineOutcome = wake (net_of t) p x.number now (view_in x p) (log_said s) in o.log)
+        ≡ (let o : MachineOutcome = wake (seen (net_of t) (view_in x p)) p x.number now (view_in x p) (log_said s) in o.log)
     go None e = absurd (true≢false (sym e))
     go (Some l) e =
-        woken_log (net_of t) p x.number now (view_in x p) l
-        ∙ sym (ap (λ (o : MachineOutcome). o.log) (wake_at_host (net_of t) p x.number now (view_in x p) (log_made l.records) host))
+        woken_log (seen (net_of t) (view_in x p)) p x.number now (view_in x p) l
+        ∙ sym (ap (λ (o : MachineOutcome). o.log) (wake_at_host (seen (net_of t) (view_in x p)) p x.number now (view_in x p) (log_made l.records) host))
+
+-- and what it is after a join
+said_joined : (net : Net) (p b s now : ℕ) (v : View) (o : Option LogView) → is_some o ≡ true
+    → log_said (with_logged o (join_of (joined_at (log_said o) s now) s)) ≡ (join_with net p b now s v (log_said o)).log
+unfolding joining learn
+said_joined net p b s now v None some = absurd (true≢false (sym some))
+said_joined net p b s now v (Some l) some = go (joined_at (log_made l.records) s now)
+  where
+    shown : Net
+    shown = seen net (view_joined (log_made l.records) s now v)
+
+    go : (a : Joined) → log_said (with_logged (Some l) (join_of a s)) ≡ (let o : MachineOutcome = joining_by shown p b s v (log_made l.records) a in o.log)
+    go (answer.Logged tick fresh) = log_with_join l.records tick s
+    go answer.Already = refl
+    go answer.Exhausted = refl
 
 -- The calls
 
 -- the machine's call is the outcome taken up
 publish_is : (net : Net) (w : World) (p number : ℕ) (e : Event) → publish_now net w p number e
-    ≡ absorbed w (net.host p) p (publish net p (net.host p) w.clock number e (view_of w (net.host p) p) (log_of w p))
+    ≡ absorbed w (net.host p) p (publish (seen net (view_of w (net.host p) p)) p (net.host p) w.clock number e (view_of w (net.host p) p) (log_of w p))
 unfolding publish_now_by
 publish_is net w p number e = refl
 
-wake_is : (net : Net) (w : World) (b p : ℕ) → wake_for net w b p ≡ absorbed w b p (wake net p b w.clock (view_of w b p) (log_of w p))
+join_is : (net : Net) (w : World) (s p : ℕ) → join_now net w s p
+    ≡ absorbed w (net.host p) p (join_with net p (net.host p) w.clock s (view_of w (net.host p) p) (log_of w p))
+unfolding join_now_by
+join_is net w s p = refl
+
+wake_is : (net : Net) (w : World) (b p : ℕ) → wake_for net w b p ≡ absorbed w b p (wake (seen net (view_of w b p)) p b w.clock (view_of w b p) (log_of w p))
 unfolding wake_for_by
 wake_is net w b p = refl
 
 deliver_is : (net : Net) (w : World) (f : Frame) → deliver_frame net w f
-    ≡ absorbed w f.head.to f.head.publisher (receive net w.clock f (view_of w f.head.to f.head.publisher) (log_of w f.head.publisher))
+    ≡ absorbed w f.head.to f.head.publisher
+    (receive (seen net (taking (view_of w f.head.to f.head.publisher) f)) w.clock f (view_of w f.head.to f.head.publisher) (log_of w f.head.publisher))
 unfolding deliver_frame_by
 deliver_is net w f = refl
 
@@ -132,63 +159,81 @@ module _ (t : TopologyView) (hosted : List ℕ) (n : NodeView) (w : World) (i : 
   call_at : (b : ℕ) (x : BrokerView) (c : Call) → broker_in n b ≡ Some x → done_by t n b (broker_in n b) c ≡ done_at t n b x c
   call_at b x c e = ap (λ (s : Option BrokerView). done_by t n b s c) e
 
-  -- A publish
+  -- A publish and a join
 
-  module _ (p number : ℕ) (e : Event) (x : BrokerView) (here : broker_in n (host_of t p) ≡ Some x) (below : p < length t.publishers) where
+  -- a call of the broker at which the publisher is, by the record that it logs
+  module _ (p : ℕ) (x : BrokerView) (here : broker_in n (host_of t p) ≡ Some x) (below : p < length t.publishers)
+      (call : ℕ → ℕ → View → Log → MachineOutcome) (r : Option Record) where
     abbrev there : ℕ
     there = host_of t p
 
-    abbrev publishes_there : MachineOutcome
-    publishes_there = publish net p there w.clock number e (view_of w there p) (log_of w p)
+    abbrev call_there : MachineOutcome
+    call_there = call there w.clock (view_of w there p) (log_of w p)
+
+    abbrev call_made : MachineOutcome
+    call_made = call x.number n.now (view_in x p) (machine_log x p)
 
     shape_there : IsShaped t there x
     shape_there = i.shaped there x here
 
-    publish_same : publish_at t x p n.now number e ≡ publishes_there
-    publish_same =
-        ap (λ (k : ℕ). publish net p k n.now number e (view_in x p) (machine_log x p)) shape_there.number
-        ∙ (ap (λ (k : ℕ). publish net p there k number e (view_in x p) (machine_log x p)) (sym i.clock)
-        ∙ (ap (λ (v : View). publish net p there w.clock number e v (machine_log x p)) (sym (i.views there p x here below))
-        ∙ ap (λ (l : Log). publish net p there w.clock number e (view_of w there p) l) (sym (i.logs p x here below))))
+    call_same : call_made ≡ call_there
+    call_same =
+        ap (λ (k : ℕ). call k n.now (view_in x p) (machine_log x p)) shape_there.number
+        ∙ (ap (λ (k : ℕ). call there k (view_in x p) (machine_log x p)) (sym i.clock)
+        ∙ (ap (λ (v : View). call there w.clock v (machine_log x p)) (sym (i.views there p x here below))
+        ∙ ap (λ (l : Log). call there w.clock (view_of w there p) l) (sym (i.logs p x here below))))
 
-    log_there_some : is_some (log_in x p) ≡ true
-    log_there_some = shape_there.hosted p below ∙ eq-eqb (host_of t p) there refl
+    log_there : is_some (log_in x p) ≡ true
+    log_there = shape_there.hosted p below ∙ eq-eqb (host_of t p) there refl
 
     long_there : p < length x.logs
     long_there = omega (arith, below, shape_there.logs)
 
-    -- the log is that of the outcome
-    publish_logged : machine_log (after_publish t x p n.now number e) p ≡ publishes_there.log
-    publish_logged =
-        ap log_said (get_or-set_same x.logs p (with_logged (log_in x p) (publish_logs_at x p n.now number e)) None long_there)
-        ∙ (said_after net p x.number n.now number e (view_in x p) (log_in x p) log_there_some
-        ∙ ap (λ (o : MachineOutcome). o.log) publish_same)
+    host_does : log_said (with_logged (log_in x p) r) ≡ call_made.log
+        → Does t hosted (taken_up n there (logged_at x p r call_made.view) call_made.lines call_made.frames) (absorbed w there p call_there) (offers_since w (absorbed w there p call_there))
+    host_does logs =
+        taken_is t hosted n w there p x (logged_at x p r call_made.view) call_made call_there i h here below
+        (exchanges_log p x (with_logged (log_in x p) r) call_made.view long_there (logged_some (log_in x p) r))
+        (ap (λ (k : MachineOutcome). on_log k call_there.log) call_same)
+        (λ at. ap log_said (get_or-set_same x.logs p (with_logged (log_in x p) r) None long_there) ∙ (logs ∙ ap (λ (o : MachineOutcome). o.log) call_same))
+        (λ ne. absurd (ne refl))
 
-    publish_does : Does t hosted (done_at t n there x (publishes (p, (number, e)))) (publish_now net w p number e) (offers_since w (publish_now net w p number e))
-    unfolding done_at
-    publish_does =
-        let o : MachineOutcome = publish_at t x p n.now number e in
-        let y : BrokerView = after_publish t x p n.now number e in
-        subst (λ (u : Transition). Does t hosted (taken_up n there y o.lines o.frames) u (offers_since w u)) (sym (publish_is net w p number e))
-        (taken_is t hosted n w there p x y o publishes_there i h here below
-        (exchanges_log p x (with_logged (log_in x p) (publish_logs_at x p n.now number e)) o.view long_there (logged_some (log_in x p) (publish_logs_at x p n.now number e)))
-        (ap (λ (k : MachineOutcome). on_log k publishes_there.log) publish_same)
-        (λ at. publish_logged) (λ ne. absurd (ne refl)))
+  publish_does : (p number : ℕ) (e : Event) (x : BrokerView) → broker_in n (host_of t p) ≡ Some x → p < length t.publishers
+      → Does t hosted (done_at t n (host_of t p) x (publishes (p, (number, e)))) (publish_now net w p number e) (offers_since w (publish_now net w p number e))
+  unfolding done_at
+  publish_does p number e x here below =
+      let o : MachineOutcome = publish_at t x p n.now number e in
+      let logs : Option Record = publish_logs_at x p n.now number e in
+      let call : ℕ → ℕ → View → Log → MachineOutcome = λ b now v l. publish (seen net v) p b now number e v l in
+      subst (λ (u : Transition). Does t hosted (taken_up n (host_of t p) (logged_at x p logs o.view) o.lines o.frames) u (offers_since w u)) (sym (publish_is net w p number e))
+      (host_does p x here below call logs
+      (said_after (seen net (view_in x p)) p x.number n.now number e (view_in x p) (log_in x p) (log_there p x here below call logs)))
+
+  join_does : (s p : ℕ) (x : BrokerView) → broker_in n (host_of t p) ≡ Some x → p < length t.publishers
+      → Does t hosted (done_at t n (host_of t p) x (joins s p)) (join_now net w s p) (offers_since w (join_now net w s p))
+  unfolding done_at
+  join_does s p x here below =
+      let o : MachineOutcome = join_at t x p s n.now in
+      let logs : Option Record = join_logs_at x p s n.now in
+      let call : ℕ → ℕ → View → Log → MachineOutcome = λ b now v l. join_with net p b now s v l in
+      subst (λ (u : Transition). Does t hosted (taken_up n (host_of t p) (logged_at x p logs o.view) o.lines o.frames) u (offers_since w u)) (sym (join_is net w s p))
+      (host_does p x here below call logs
+      (said_joined net p x.number s n.now (view_in x p) (log_in x p) (log_there p x here below call logs)))
 
   -- A wake
 
   module _ (b p : ℕ) (x : BrokerView) (here : broker_in n b ≡ Some x) (below : p < length t.publishers) where
     abbrev wakes_here : MachineOutcome
-    wakes_here = wake net p b w.clock (view_of w b p) (log_of w p)
+    wakes_here = wake (seen net (view_of w b p)) p b w.clock (view_of w b p) (log_of w p)
 
     shape_here : IsShaped t b x
     shape_here = i.shaped b x here
 
-    wake_numbered : (l : Log) → wake net p x.number n.now (view_in x p) l ≡ wake net p b w.clock (view_of w b p) l
+    wake_numbered : (l : Log) → wake (seen net (view_in x p)) p x.number n.now (view_in x p) l ≡ wake (seen net (view_of w b p)) p b w.clock (view_of w b p) l
     wake_numbered l =
-        ap (λ (k : ℕ). wake net p k n.now (view_in x p) l) shape_here.number
-        ∙ (ap (λ (k : ℕ). wake net p b k (view_in x p) l) (sym i.clock)
-        ∙ ap (λ (v : View). wake net p b w.clock v l) (sym (i.views b p x here below)))
+        ap (λ (k : ℕ). wake (seen net (view_in x p)) p k n.now (view_in x p) l) shape_here.number
+        ∙ (ap (λ (k : ℕ). wake (seen net (view_in x p)) p b k (view_in x p) l) (sym i.clock)
+        ∙ ap (λ (v : View). wake (seen net v) p b w.clock v l) (sym (i.views b p x here below)))
 
     long_here : p < length x.logs
     long_here = omega (arith, below, shape_here.logs)
@@ -197,7 +242,7 @@ module _ (t : TopologyView) (hosted : List ℕ) (n : NodeView) (w : World) (i : 
     wake_hosted : host_of t p ≡ b → wake_at t x p n.now ≡ wakes_here
     wake_hosted at =
         wake_numbered (machine_log x p)
-        ∙ ap (λ (l : Log). wake net p b w.clock (view_of w b p) l) (sym (i.logs p x (ap (λ (k : ℕ). broker_in n k) at ∙ here) below))
+        ∙ ap (λ (l : Log). wake (seen net (view_of w b p)) p b w.clock (view_of w b p) l) (sym (i.logs p x (ap (λ (k : ℕ). broker_in n k) at ∙ here) below))
 
     no_log : host_of t p ≢ b → log_in x p ≡ None
     no_log ne = go (log_in x p) (shape_here.hosted p below ∙ ne_eqb (host_of t p) b ne)
@@ -209,8 +254,8 @@ module _ (t : TopologyView) (hosted : List ℕ) (n : NodeView) (w : World) (i : 
     -- elsewhere it is the machine's but for the log, which that passes on
     wake_elsewhere : host_of t p ≢ b → on_log (wake_at t x p n.now) (log_of w p) ≡ wakes_here
     wake_elsewhere ne =
-        ap (λ (o : MachineOutcome). on_log o (log_of w p)) (wake_numbered (machine_log x p) ∙ ap (λ (s : Option LogView). wake net p b w.clock (view_of w b p) (log_said s)) (no_log ne))
-        ∙ sym (wake_passes net p b w.clock (view_of w b p) (log_of w p) (ne_eqb (host_of t p) b ne))
+        ap (λ (o : MachineOutcome). on_log o (log_of w p)) (wake_numbered (machine_log x p) ∙ ap (λ (s : Option LogView). wake (seen net (view_of w b p)) p b w.clock (view_of w b p) (log_said s)) (no_log ne))
+        ∙ sym (wake_passes (seen net (view_of w b p)) p b w.clock (view_of w b p) (log_of w p) (ne_eqb (host_of t p) b ne))
 
     wake_passed : host_of t p ≢ b → wakes_here.log ≡ log_of w p
     wake_passed ne = sym (ap (λ (o : MachineOutcome). o.log) (wake_elsewhere ne))
@@ -276,26 +321,26 @@ module _ (t : TopologyView) (hosted : List ℕ) (n : NodeView) (w : World) (i : 
       p = f.head.publisher
 
       abbrev takes_here : MachineOutcome
-      takes_here = receive net w.clock f (view_of w b p) (log_of w p)
+      takes_here = receive (seen net (taking (view_of w b p) f)) w.clock f (view_of w b p) (log_of w p)
 
       abbrev answers_here : MachineOutcome
-      answers_here = receive net n.now f (view_in x p) empty_log
+      answers_here = receive (seen net (taking (view_in x p) f)) n.now f (view_in x p) empty_log
 
       -- the machine's outcome is the broker's but for the log
       receive_same : on_log answers_here (log_of w p) ≡ takes_here
       receive_same =
-          receive_passes passes rest net n.now f (view_in x p) (log_of w p)
-          ∙ (ap (λ (k : ℕ). receive net k f (view_in x p) (log_of w p)) (sym i.clock)
-          ∙ ap (λ (v : View). receive net w.clock f v (log_of w p)) (sym (i.views b p x here below)))
+          receive_passes passes rest (seen net (taking (view_in x p) f)) n.now f (view_in x p) (log_of w p)
+          ∙ (ap (λ (k : ℕ). receive (seen net (taking (view_in x p) f)) k f (view_in x p) (log_of w p)) (sym i.clock)
+          ∙ ap (λ (v : View). receive (seen net (taking v f)) w.clock f v (log_of w p)) (sym (i.views b p x here below)))
 
       receive_passed : takes_here.log ≡ log_of w p
-      receive_passed = passes net w.clock f (view_of w b p) (log_of w p)
+      receive_passed = passes (seen net (taking (view_of w b p) f)) w.clock f (view_of w b p) (log_of w p)
 
       -- the machine's delivery is to this broker
       deliver_here : deliver_frame net w f ≡ absorbed w b p takes_here
       deliver_here =
           deliver_is net w f
-          ∙ ap (λ (k : ℕ). absorbed w k p (receive net w.clock f (view_of w k p) (log_of w p))) to
+          ∙ ap (λ (k : ℕ). absorbed w k p (receive (seen net (taking (view_of w k p) f)) w.clock f (view_of w k p) (log_of w p))) to
 
       taken_does : Does t hosted (done_with (Ok f) (taken answers_here)) (deliver_frame net w f) (offers_since w (deliver_frame net w f))
       taken_does =
@@ -305,29 +350,39 @@ module _ (t : TopologyView) (hosted : List ℕ) (n : NodeView) (w : World) (i : 
           (λ at. sym (i.logs p x (ap (λ (k : ℕ). broker_in n k) at ∙ here) below) ∙ sym receive_passed) (λ ne. receive_passed))
 
       -- by what is kept
-      abbrev machine_takes : View → Option ℕ → Transition
-      machine_takes v c = elim c [ Some u ↦ unchanged w (clash_line b v.know f u ∷ []) | None ↦ deliver_frame net w f ]
+      abbrev machine_takes : View → Option Split → Option ℕ → Transition
+      machine_takes v s c = elim s [
+        | Some y ↦ unchanged w (split_line b y ∷ [])
+        | None ↦ elim c [ Some u ↦ unchanged w (clash_line b v.know f u ∷ []) | None ↦ deliver_frame net w f ]
+      ]
 
-      abbrev broker_takes : View → Option ℕ → Receipt
-      broker_takes v c = elim c [ Some u ↦ clash u (known_at v.know u) (came_at f u) | None ↦ taken answers_here ]
+      abbrev broker_takes : View → Option Split → Option ℕ → Receipt
+      broker_takes v s c = elim s [
+        | Some y ↦ split y
+        | None ↦ elim c [ Some u ↦ clash u (known_at v.know u) (came_at f u) | None ↦ taken answers_here ]
+      ]
 
-      by_clash : (v : View) (c : Option ℕ) → Does t hosted (done_with (Ok f) (broker_takes v c)) (machine_takes v c) (offers_since w (machine_takes v c))
-      by_clash v None = taken_does
-      by_clash v (Some u) = dropped_is b x (clash_line b v.know f u) here
+      by_kept : (v : View) (s : Option Split) (c : Option ℕ) → Does t hosted (done_with (Ok f) (broker_takes v s c)) (machine_takes v s c) (offers_since w (machine_takes v s c))
+      by_kept v (Some y) c = dropped_is b x (split_line b y) here
+      by_kept v None None = taken_does
+      by_kept v None (Some u) = dropped_is b x (clash_line b v.know f u) here
 
-      takes_is : takes net w b f ≡ machine_takes (view_in x p) (least_clash (view_in x p).know f)
+      abbrev split_here : Option Split
+      split_here = first_split 0 (view_in x p).joins (joins_in f)
+
+      takes_is : takes net w b f ≡ machine_takes (view_in x p) split_here (least_clash (view_in x p).know f)
       unfolding takes_by
-      takes_is = ap (λ (v : View). machine_takes v (least_clash v.know f)) (i.views b p x here below)
+      takes_is = ap (λ (v : View). machine_takes v (first_split 0 v.joins (joins_in f)) (least_clash v.know f)) (i.views b p x here below)
 
-      fit_is : receipt_of_fit net n.now (view_in x p) f ≡ broker_takes (view_in x p) (least_clash (view_in x p).know f)
+      fit_is : receipt_of_fit net n.now (view_in x p) f ≡ broker_takes (view_in x p) split_here (least_clash (view_in x p).know f)
       unfolding receipt_of_fit
       fit_is = refl
 
       fit_does : Does t hosted (done_with (Ok f) (receipt_of_fit net n.now (view_in x p) f)) (takes net w b f) (offers_since w (takes net w b f))
       fit_does =
           subst (λ (u : Transition). Does t hosted (done_with (Ok f) (receipt_of_fit net n.now (view_in x p) f)) u (offers_since w u)) (sym takes_is)
-          (subst (λ (a : Receipt). let u : Transition = machine_takes (view_in x p) (least_clash (view_in x p).know f) in Does t hosted (done_with (Ok f) a) u (offers_since w u)) (sym fit_is)
-          (by_clash (view_in x p) (least_clash (view_in x p).know f)))
+          (subst (λ (a : Receipt). let u : Transition = machine_takes (view_in x p) split_here (least_clash (view_in x p).know f) in Does t hosted (done_with (Ok f) a) u (offers_since w u)) (sym fit_is)
+          (by_kept (view_in x p) split_here (least_clash (view_in x p).know f)))
 
     -- by whether the frame fits
     module _ (f : Frame) where
@@ -382,6 +437,10 @@ module _ (t : TopologyView) (hosted : List ℕ) (n : NodeView) (w : World) (i : 
       let x = broker_here hosted n (host_of t y.0) h k.1 in
       subst (λ (d : Done). Does t hosted d (publish_now net w y.0 y.1.0 y.1.1) (offers_since w (publish_now net w y.0 y.1.0 y.1.1))) (sym (call_at (host_of t y.0) x.0 (publishes y) x.1))
       (publish_does y.0 y.1.0 y.1.1 x.0 x.1 k.0)
+  call_does passes rest (joins s p) k =
+      let x = broker_here hosted n (host_of t p) h k.1 in
+      subst (λ (d : Done). Does t hosted d (join_now net w s p) (offers_since w (join_now net w s p))) (sym (call_at (host_of t p) x.0 (joins s p) x.1))
+      (join_does s p x.0 x.1 k.0)
   call_does passes rest (wakes b p) k =
       let x = broker_here hosted n b h k.0 in
       subst (λ (d : Done). Does t hosted d (wake_for net w b p) (offers_since w (wake_for net w b p))) (sym (call_at b x.0 (wakes b p) x.1))
@@ -433,6 +492,8 @@ at_orders t n b x (gets k r) =
     let a : Receipt = receipt (net_of t) n.now x r in sym (fed_sent n.orders (receipt_lines b a) (suc n.offers) (receipt_frames a))
 at_orders t n b x (publishes y) =
     let o : MachineOutcome = publish_at t x y.0 n.now y.1.0 y.1.1 in sym (fed_sent n.orders o.lines (suc n.offers) o.frames)
+at_orders t n b x (joins s p) =
+    let o : MachineOutcome = join_at t x p s n.now in sym (fed_sent n.orders o.lines (suc n.offers) o.frames)
 at_orders t n b x (wakes k p) =
     let o : MachineOutcome = wake_at t x p n.now in sym (fed_sent n.orders o.lines (suc n.offers) o.frames)
 

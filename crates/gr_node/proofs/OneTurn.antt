@@ -12,7 +12,7 @@ use Rattle.gr_topo.specs.Topology.{TopologyView}
 use Rattle.gr_sched.specs.declared.step.Line.{Line}
 use Rattle.gr_model.specs.NetOf.{net_of}
 use Rattle.gr_model.specs.Broker.{max_tick}
-use Rattle.gr_model.specs.Arrivals.{Arrival, datagram, quiet, Publish, publishes_of, left_after}
+use Rattle.gr_model.specs.Arrivals.{Arrival, datagram, quiet, Request, requests_of, left_after}
 use Rattle.gr_model_theorems.specs.Served.{IsOfBytes}
 use Rattle.gr_node.specs.Seen.{NodeView}
 use Rattle.gr_node.specs.Plan.{Act, arrives, calls, settles, closes, datagram_acts, led_to, quiet_calls, acts_from, closing, entry_of}
@@ -35,7 +35,7 @@ went_flushed t hosted tells acts n n' o taken taken' held held' journal (Err e) 
 -- A datagram
 
 -- that is for a broker elsewhere is passed over
-pub went_elsewhere : {T : Type 0} (t : TopologyView) (hosted : List ℕ) (tells : Type 0) (b : ℕ) (bytes : List ℕ) (moment : ℕ) (left : List Publish) (n n' : NodeView) (o o' : Outside) (r : Result T RunFault) → is_among hosted b ≡ false
+pub went_elsewhere : {T : Type 0} (t : TopologyView) (hosted : List ℕ) (tells : Type 0) (b : ℕ) (bytes : List ℕ) (moment : ℕ) (left : List Request) (n n' : NodeView) (o o' : Outside) (r : Result T RunFault) → is_among hosted b ≡ false
     → Went {T = T} t hosted tells [] n n' o o' r
     → Went {T = T} t hosted tells (led_to (net_of t) hosted left (datagram b bytes moment)) (at_arrival hosted n (datagram b bytes moment)) n' o o' r
 went_elsewhere {T} t hosted tells b bytes moment left n n' o o' r e w =
@@ -44,7 +44,7 @@ went_elsewhere {T} t hosted tells b bytes moment left n n' o o' r e w =
     (sym e) w
 
 -- one that is for a hosted broker is taken there, at its moment, and then it is told what is ready in one order
-pub went_here : {T : Type 0} (t : TopologyView) (hosted : List ℕ) (tells : Type 0) (b : ℕ) (bytes : List ℕ) (moment now : ℕ) (left : List Publish) (n n' : NodeView) (o o' : Outside) (r : Result T RunFault) → is_among hosted b ≡ true
+pub went_here : {T : Type 0} (t : TopologyView) (hosted : List ℕ) (tells : Type 0) (b : ℕ) (bytes : List ℕ) (moment now : ℕ) (left : List Request) (n n' : NodeView) (o o' : Outside) (r : Result T RunFault) → is_among hosted b ≡ true
     → now ≡ min moment max_tick → Went {T = T} t hosted tells (datagram_acts (net_of t) b bytes ++ settles ∷ []) (record { brokers = n.brokers; offers = n.offers; now = now; orders = n.orders }) n' o o' r
     → Went {T = T} t hosted tells (led_to (net_of t) hosted left (datagram b bytes moment)) (at_arrival hosted n (datagram b bytes moment)) n' o o' r
 went_here {T} t hosted tells b bytes moment now left n n' o o' r e clock w =
@@ -54,7 +54,7 @@ went_here {T} t hosted tells b bytes moment now left n n' o o' r e clock w =
     (subst (λ k. Went {T = T} t hosted tells (datagram_acts (net_of t) b bytes ++ settles ∷ []) (record { brokers = n.brokers; offers = n.offers; now = k; orders = n.orders }) n' o o' r) clock w)
 
 -- A quiet moment: the clock moves, and then come its acts, and what is ready in one order
-pub went_quiet : {T : Type 0} (t : TopologyView) (hosted : List ℕ) (tells : Type 0) (left : List Publish) (moment now : ℕ) (n n' : NodeView) (o o' : Outside) (r : Result T RunFault) → now ≡ min moment max_tick
+pub went_quiet : {T : Type 0} (t : TopologyView) (hosted : List ℕ) (tells : Type 0) (left : List Request) (moment now : ℕ) (n n' : NodeView) (o o' : Outside) (r : Result T RunFault) → now ≡ min moment max_tick
     → Went {T = T} t hosted tells (map calls (quiet_calls (net_of t) hosted left) ++ settles ∷ []) (record { brokers = n.brokers; offers = n.offers; now = now; orders = n.orders }) n' o o' r
     → Went {T = T} t hosted tells (map calls (quiet_calls (net_of t) hosted left) ++ settles ∷ []) (at_arrival hosted n (quiet moment)) n' o o' r
 went_quiet {T} t hosted tells left moment now n n' o o' r e w =
@@ -63,14 +63,14 @@ went_quiet {T} t hosted tells left moment now n n' o o' r e w =
 -- A turn
 
 -- the acts of an arrival alone
-acts_of_one : (t : TopologyView) (hosted : List ℕ) (left : List Publish) (a : Arrival) → (arrives a ∷ []) ++ led_to (net_of t) hosted left a ≡ acts_from (net_of t) hosted left (a ∷ []) ++ closing false
+acts_of_one : (t : TopologyView) (hosted : List ℕ) (left : List Request) (a : Arrival) → (arrives a ∷ []) ++ led_to (net_of t) hosted left a ≡ acts_from (net_of t) hosted left (a ∷ []) ++ closing false
 unfolding acts_from
 acts_of_one t hosted left a =
     let acts : List Act = arrives a ∷ led_to (net_of t) hosted left a in
     sym (append-nil (acts ++ []) ∙ append-nil acts)
 
 -- an arrival and then its acts, as far as code went
-came_on : {T : Type 0} (t : TopologyView) (hosted : List ℕ) (tells : Type 0) (left : List Publish) (a : Arrival) (n n' : NodeView) (taken : Option (List ℕ)) (held : List ℕ) (before came : List Entry) (o' : Outside) (r : Result T RunFault)
+came_on : {T : Type 0} (t : TopologyView) (hosted : List ℕ) (tells : Type 0) (left : List Request) (a : Arrival) (n n' : NodeView) (taken : Option (List ℕ)) (held : List ℕ) (before came : List Entry) (o' : Outside) (r : Result T RunFault)
     → (tells → came ≡ before ++ entry_of a ∷ [])
     → Went {T = T} t hosted tells (led_to (net_of t) hosted left a) (at_arrival hosted n a) n' (outside taken held came) o' r
     → Went {T = T} t hosted tells (acts_from (net_of t) hosted left (a ∷ []) ++ closing false) n n' (outside taken held before) o' r
@@ -80,18 +80,18 @@ came_on {T} t hosted tells left a n n' taken held before came o' r put w =
     (made_arrives t hosted tells a n (at_arrival hosted n a) (outside taken held before) (outside taken held came) refl refl refl put) w)
 
 -- what is left after one arrival
-left_one : (left : List Publish) (a : Arrival) → left_behind left (a ∷ []) ≡ left_after left a
+left_one : (left : List Request) (a : Arrival) → left_behind left (a ∷ []) ≡ left_after left a
 unfolding left_behind
 left_one left a = refl
 
 -- A turn that took what came
 pub turned_on : (t : TopologyView) (hosted : List ℕ) (tells : Type 0) (steps : List Line) (next next' : ℕ) (a : Arrival) (n n' : NodeView) (taken : Option (List ℕ)) (held : List ℕ) (before came : List Entry) (o' : Outside) (x : Unit {0})
     → IsOfBytes a → (tells → came ≡ before ++ entry_of a ∷ [])
-    → Went {T = Unit {0}} t hosted tells (led_to (net_of t) hosted (publishes_of (net_of t) hosted (drop next steps)) a) (at_arrival hosted n a) n' (outside taken held came) o' (Ok x)
-    → publishes_of (net_of t) hosted (drop next' steps) ≡ left_after (publishes_of (net_of t) hosted (drop next steps)) a
+    → Went {T = Unit {0}} t hosted tells (led_to (net_of t) hosted (requests_of (net_of t) hosted (drop next steps)) a) (at_arrival hosted n a) n' (outside taken held came) o' (Ok x)
+    → requests_of (net_of t) hosted (drop next' steps) ≡ left_after (requests_of (net_of t) hosted (drop next steps)) a
     → Turned t hosted tells steps next next' n n' (outside taken held before) o' (Ok true)
 turned_on t hosted tells steps next next' a n n' taken held before came o' x bytes put w left =
-    let all : List Act = acts_from (net_of t) hosted (publishes_of (net_of t) hosted (drop next steps)) (a ∷ []) ++ closing false in
+    let all : List Act = acts_from (net_of t) hosted (requests_of (net_of t) hosted (drop next steps)) (a ∷ []) ++ closing false in
     record {
       came = a ∷ [];
       shut = false;
@@ -99,29 +99,29 @@ turned_on t hosted tells steps next next' a n n' taken held before came o' x byt
       bytes = (bytes, tt);
       went = went_ok t hosted tells all n n' (outside taken held before) o' true
           (all_made t hosted tells all n n' (outside taken held before) o' x
-          (came_on t hosted tells (publishes_of (net_of t) hosted (drop next steps)) a n n' taken held before came o' (Ok x) put w));
-      left = left ∙ sym (left_one (publishes_of (net_of t) hosted (drop next steps)) a);
+          (came_on t hosted tells (requests_of (net_of t) hosted (drop next steps)) a n n' taken held before came o' (Ok x) put w));
+      left = left ∙ sym (left_one (requests_of (net_of t) hosted (drop next steps)) a);
     }
 
 -- one that ended within what came
 pub turned_cut : (t : TopologyView) (hosted : List ℕ) (tells : Type 0) (steps : List Line) (next next' : ℕ) (a : Arrival) (n n' : NodeView) (taken : Option (List ℕ)) (held : List ℕ) (before came : List Entry) (o' : Outside) (e : RunFault)
     → IsOfBytes a → (tells → came ≡ before ++ entry_of a ∷ [])
-    → Went {T = Unit {0}} t hosted tells (led_to (net_of t) hosted (publishes_of (net_of t) hosted (drop next steps)) a) (at_arrival hosted n a) n' (outside taken held came) o' (Err e)
+    → Went {T = Unit {0}} t hosted tells (led_to (net_of t) hosted (requests_of (net_of t) hosted (drop next steps)) a) (at_arrival hosted n a) n' (outside taken held came) o' (Err e)
     → Turned t hosted tells steps next next' n n' (outside taken held before) o' (Err e)
 turned_cut t hosted tells steps next next' a n n' taken held before came o' e bytes put w =
-    let all : List Act = acts_from (net_of t) hosted (publishes_of (net_of t) hosted (drop next steps)) (a ∷ []) ++ closing false in
+    let all : List Act = acts_from (net_of t) hosted (requests_of (net_of t) hosted (drop next steps)) (a ∷ []) ++ closing false in
     record {
       came = a ∷ [];
       shut = false;
       ends = (omega arith, refl);
       bytes = (bytes, tt);
       went = went_as {T = Unit {0}} {U = Bool} t hosted tells all n n' (outside taken held before) o' e
-          (came_on t hosted tells (publishes_of (net_of t) hosted (drop next steps)) a n n' taken held before came o' (Err e) put w);
+          (came_on t hosted tells (requests_of (net_of t) hosted (drop next steps)) a n n' taken held before came o' (Err e) put w);
       left = tt;
     }
 
 -- no acts, and then that nothing comes any more
-acts_shut : (t : TopologyView) (hosted : List ℕ) (left : List Publish) (shut : Bool) → acts_from (net_of t) hosted left [] ++ closing shut ≡ closing shut
+acts_shut : (t : TopologyView) (hosted : List ℕ) (left : List Request) (shut : Bool) → acts_from (net_of t) hosted left [] ++ closing shut ≡ closing shut
 unfolding acts_from
 acts_shut t hosted left shut = refl
 
@@ -130,7 +130,7 @@ pub turned_shut : (t : TopologyView) (hosted : List ℕ) (tells : Type 0) (steps
     → (tells → after ≡ before ++ entry.closed ∷ []) → next' ≡ next → Turned t hosted tells steps next next' n n' (outside taken held before) (outside taken held after) (Ok false)
 unfolding left_behind
 turned_shut t hosted tells steps next next' n n' taken held before after e put same =
-    let left : List Publish = publishes_of (net_of t) hosted (drop next steps) in
+    let left : List Request = requests_of (net_of t) hosted (drop next steps) in
     record {
       came = [];
       shut = true;
@@ -139,14 +139,14 @@ turned_shut t hosted tells steps next next' n n' taken held before after e put s
       went = subst (λ acts. Went {T = Bool} t hosted tells acts n n' (outside taken held before) (outside taken held after) (Ok false)) (sym (acts_shut t hosted left true))
           (went_ok t hosted tells (closes ∷ []) n n' (outside taken held before) (outside taken held after) false
           (made_closes t hosted tells n n' (outside taken held before) (outside taken held after) e refl refl put));
-      left = ap (λ k. publishes_of (net_of t) hosted (drop k steps)) same;
+      left = ap (λ k. requests_of (net_of t) hosted (drop k steps)) same;
     }
 
 -- the post failed
 pub turned_failed : (t : TopologyView) (hosted : List ℕ) (tells : Type 0) (steps : List Line) (next next' : ℕ) (n n' : NodeView) (taken : Option (List ℕ)) (held : List ℕ) (before after : List Entry) → n' ≡ n
     → (tells → after ≡ before ++ entry.failed ∷ []) → Turned t hosted tells steps next next' n n' (outside taken held before) (outside taken held after) (Err run.Post)
 turned_failed t hosted tells steps next next' n n' taken held before after e put =
-    let left : List Publish = publishes_of (net_of t) hosted (drop next steps) in
+    let left : List Request = requests_of (net_of t) hosted (drop next steps) in
     record {
       came = [];
       shut = false;
@@ -161,7 +161,7 @@ turned_failed t hosted tells steps next next' n n' taken held before after e put
 pub turned_refused : (t : TopologyView) (hosted : List ℕ) (tells : Type 0) (steps : List Line) (next next' : ℕ) (n n' : NodeView) (taken : Option (List ℕ)) (held : List ℕ) (before after : List Entry)
     → (tells → after ≡ before ++ []) → Turned t hosted tells steps next next' n n' (outside taken held before) (outside taken held after) (Err run.Memory)
 turned_refused t hosted tells steps next next' n n' taken held before after put =
-    let left : List Publish = publishes_of (net_of t) hosted (drop next steps) in
+    let left : List Request = requests_of (net_of t) hosted (drop next steps) in
     record {
       came = [];
       shut = false;

@@ -17,7 +17,7 @@ use Rattle.gr_topo.specs.Topology.{TopologyView, host_of}
 use Rattle.gr_model.specs.declared.report.Report.{Report}
 use Rattle.gr_model.specs.Net.{Net, is_host, not_empty, numbers, numbers_from}
 use Rattle.gr_model.specs.NetOf.{net_of, IsRising}
-use Rattle.gr_model.specs.Broker.{View, Log, Outcome as MachineOutcome, empty_log, log_know, learn, started}
+use Rattle.gr_model.specs.Broker.{View, Log, Outcome as MachineOutcome, empty_log, log_know, learn, seen, started}
 use Rattle.gr_model.specs.World.{World, Transition, blank_view, view_of, log_of, sent_lines, absorbed, unchanged, followed_by, in_turn}
 use Rattle.gr_model.specs.Opening.{reopened_log, over_logs, reopened_line, opened_for, opened_for_by}
 use Rattle.gr_model_theorems.specs.Lanes.{AllFollow, whole_logs}
@@ -114,7 +114,7 @@ module _ (net : Net) (p b : ℕ) (log : Log) where
   abbrev opened_if : Bool → Bool → MachineOutcome
   opened_if here some =
       let v : View = started net p b log in
-      let o : MachineOutcome = learn net p b [] v log in
+      let o : MachineOutcome = learn (seen net v) p b [] v log in
       elim (here && some) [
         | true ↦ record { view = o.view; log = log; lines = reopened_line log p ++ o.lines; frames = o.frames }
         | false ↦ record { view = v; log = log; lines = if here then reopened_line log p else []; frames = [] }
@@ -135,7 +135,7 @@ module _ (net : Net) (p b : ℕ) (log : Log) where
 started_elsewhere : (net : Net) (p b : ℕ) (log other : Log) → is_host net p b ≡ false → started net p b log ≡ started net p b other
 unfolding started
 started_elsewhere net p b log other e =
-    let made : Bool → Log → View = λ here l. record { know = if here then log_know l else []; wants = map (λ _. []) (net.children p b); asks = []; horizon = 0; joins = [] } in
+    let made : Bool → Log → View = λ here l. record { know = if here then log_know l else []; wants = map (λ _. []) (net.children p b); asks = []; horizon = 0; joins = if here then l.joins else [] } in
     ap (λ here. made here log) e ∙ sym (ap (λ here. made here other) e)
 
 learned_log : (net : Net) (p b : ℕ) (piece : Known) (v : View) (l : Log) → (learn net p b piece v l).log ≡ l
@@ -231,21 +231,21 @@ module _ (net : Net) (w : World) (p : ℕ) (log : Log) (is_log : log_of w p ≡ 
   b = net.host p
 
   abbrev learned : MachineOutcome
-  learned = learn net p b [] (started net p b log) log
+  learned = learn (seen net (started net p b log)) p b [] (started net p b log) log
 
   abbrev learns : MachineOutcome
-  learns = learn net p b [] (view_of w b p) (log_of w p)
+  learns = learn (seen net (view_of w b p)) p b [] (view_of w b p) (log_of w p)
 
   learns_same : learns ≡ learned
   learns_same =
-      ap (λ (v : View). learn net p b [] v (log_of w p)) fresh ∙ ap (λ (l : Log). learn net p b [] (started net p b log) l) is_log
+      ap (λ (v : View). learn (seen net v) p b [] v (log_of w p)) fresh ∙ ap (λ (l : Log). learn (seen net (started net p b log)) p b [] (started net p b log) l) is_log
 
   host_here : is_host net p b ≡ true
   host_here = eq-eqb (net.host p) b refl
 
   -- with a subscriber at the host
   turn_with : not_empty (net.subscribers_at b) ≡ true
-      → OpensFor net w p b log (followed_by (unchanged w (reopened_line (log_of w p) p)) (λ u. absorbed u b p (learn net p b [] (view_of u b p) (log_of u p))))
+      → OpensFor net w p b log (followed_by (unchanged w (reopened_line (log_of w p) p)) (λ u. absorbed u b p (learn (seen net (view_of u b p)) p b [] (view_of u b p) (log_of u p))))
   turn_with some =
       let opened = opened_by net p b log true true host_here some in
       let silent : learns.frames ≡ [] =
@@ -253,7 +253,7 @@ module _ (net : Net) (w : World) (p : ℕ) (log : Log) (is_log : log_of w p ≡ 
       let same : learns.view ≡ (opened_at net p b log).view = ap (λ (o : MachineOutcome). o.view) learns_same ∙ sym (ap (λ (o : MachineOutcome). o.view) opened) in
       record {
         world = subst (λ (v : View). Turns w b p v (absorbed w b p learns).world) same
-            (quiet_turn w b p learns silent (learned_log net p b [] (view_of w b p) (log_of w p)) row place);
+            (quiet_turn w b p learns silent (learned_log (seen net (view_of w b p)) p b [] (view_of w b p) (log_of w p)) row place);
         lines = ap₂ (λ (xs ys : List Report). xs ++ ys) (ap (λ (l : Log). reopened_line l p) is_log) (absorbed_lines w b p learns silent ∙ ap (λ (o : MachineOutcome). o.lines) learns_same)
             ∙ sym (ap (λ (o : MachineOutcome). o.lines) opened);
       }
@@ -276,7 +276,7 @@ module _ (net : Net) (w : World) (p : ℕ) (log : Log) (is_log : log_of w p ≡ 
   turn_is = go (not_empty (net.subscribers_at b)) refl
     where
       go : (q : Bool) → not_empty (net.subscribers_at b) ≡ q → OpensFor net w p b log (followed_by (unchanged w (reopened_line (log_of w p) p)) (λ u. elim q [
-        | true ↦ absorbed u b p (learn net p b [] (view_of u b p) (log_of u p))
+        | true ↦ absorbed u b p (learn (seen net (view_of u b p)) p b [] (view_of u b p) (log_of u p))
         | false ↦ unchanged u []
       ]))
       go true e = turn_with e

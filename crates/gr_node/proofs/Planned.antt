@@ -18,11 +18,11 @@ use Rattle.gr_model.specs.declared.report.Report.TheVariants as line
 use Rattle.gr_model.specs.Net.{Net, is_host, numbers}
 use Rattle.gr_model.specs.NetOf.{net_of}
 use Rattle.gr_model.specs.Broker.{Log}
-use Rattle.gr_model.specs.World.{World, Transition, unchanged, followed_by, in_turn, publish_now, wake_for, wake_all, wake_all_by}
+use Rattle.gr_model.specs.World.{World, Transition, unchanged, followed_by, in_turn, publish_now, join_now, wake_for, wake_all, wake_all_by}
 use Rattle.gr_model.specs.Opening.{over_logs, opened_for, publishers_at, opening, opening_by}
-use Rattle.gr_model.specs.Arrivals.{Arrival, datagram, quiet, Publish, publishes_of, left_after, at_moment, is_hosted, publisher_of, submitted_in, receives, notes, notes_by, reads, published_first, quieted, quieted_by, comes, comes_by, show_hosted, served_from, served_from_by, arrived, arrived_by, served, served_by}
+use Rattle.gr_model.specs.Arrivals.{Arrival, datagram, quiet, Publish, Request, asks_publish, asks_join, requests_of, left_after, at_moment, is_hosted, publisher_of, submitted_in, receives, notes, notes_by, reads, answered_first, quieted, quieted_by, comes, comes_by, show_hosted, served_from, served_from_by, arrived, arrived_by, served, served_by}
 use Rattle.gr_model_theorems.specs.Served.{joined}
-use Rattle.gr_node.specs.Plan.{Act, binds, starts, arrives, calls, settles, shows, gets, wakes, is_ours, ours, publish_calls, wake_calls, quiet_calls, submit_acts, note_acts, datagram_acts, acts_of, settling, arrival_acts, acts_from, closing, turn_acts, run_acts, nodes, plan, act}
+use Rattle.gr_node.specs.Plan.{Act, binds, starts, arrives, calls, settles, shows, gets, wakes, is_ours, ours, request_calls, wake_calls, quiet_calls, submit_acts, note_acts, datagram_acts, acts_of, settling, arrival_acts, acts_from, closing, turn_acts, run_acts, nodes, plan, act}
 use Rattle.gr_node.proofs.Opening.{in_turn_append, binds_nothing, settled_nothing}
 
 -- One after another
@@ -90,24 +90,25 @@ all_woken net hosted (b ∷ bs) w =
     ∙ (ap (λ (s : Transition). followed_by s later) (woken_for net hosted b (numbers net.publishers) w)
     ∙ followed_same (wake_all net w b) later (in_turn (wake_all net) bs) (all_woken net hosted bs (wake_all net w b).world)))
 
--- the publish that a quiet moment takes
-published_as : (net : Net) (hosted : List ℕ) (left : List Publish) (w : World)
-    → in_turn (act net hosted) (map calls (publish_calls left)) w ≡ published_first net w left
+-- the request that a quiet moment takes
+answered_as : (net : Net) (hosted : List ℕ) (left : List Request) (w : World)
+    → in_turn (act net hosted) (map calls (request_calls left)) w ≡ answered_first net w left
 unfolding act
-published_as net hosted [] w = refl
-published_as net hosted (x ∷ left) w = followed_none (publish_now net w x.0 x.1.0 x.1.1)
+answered_as net hosted [] w = refl
+answered_as net hosted (asks_publish p number e ∷ left) w = followed_none (publish_now net w p number e)
+answered_as net hosted (asks_join s p ∷ left) w = followed_none (join_now net w s p)
 
 -- the calls of a quiet moment
-quieted_as : (net : Net) (hosted : List ℕ) (left : List Publish) (w : World)
+quieted_as : (net : Net) (hosted : List ℕ) (left : List Request) (w : World)
     → in_turn (act net hosted) (map calls (quiet_calls net hosted left)) w ≡ quieted net hosted w left
 unfolding quieted_by
 quieted_as net hosted left w =
     let woken = flat_map (wake_calls net.publishers) hosted in
     let later : World → Transition = in_turn (act net hosted) (map calls woken) in
-    let first : Transition = published_first net w left in
-    ap (λ (acts : List Act). in_turn (act net hosted) acts w) (map-append calls (publish_calls left) woken)
-    ∙ (in_turn_append (act net hosted) (map calls (publish_calls left)) (map calls woken) w
-    ∙ (ap (λ (s : Transition). followed_by s later) (published_as net hosted left w)
+    let first : Transition = answered_first net w left in
+    ap (λ (acts : List Act). in_turn (act net hosted) acts w) (map-append calls (request_calls left) woken)
+    ∙ (in_turn_append (act net hosted) (map calls (request_calls left)) (map calls woken) w
+    ∙ (ap (λ (s : Transition). followed_by s later) (answered_as net hosted left w)
     ∙ followed_same first later (in_turn (wake_all net) hosted) (all_woken net hosted hosted first.world)))
 
 -- what a note submits
@@ -134,7 +135,7 @@ read_as net hosted b bytes u = go (begins_note bytes)
     go false = followed_none (receives net u b (frame_decoded bytes))
 
 -- where it came at a hosted broker, or at a quiet moment, its acts are what the machine does
-pub calls_are : (net : Net) (hosted : List ℕ) (left : List Publish) (a : Arrival) (w : World)
+pub calls_are : (net : Net) (hosted : List ℕ) (left : List Request) (a : Arrival) (w : World)
     → is_ours hosted a ≡ true → in_turn (act net hosted) (arrives a ∷ acts_of net hosted left a) w ≡ comes net hosted w left a
 unfolding act comes_by
 calls_are net hosted left (datagram b bytes moment) w e =
@@ -144,7 +145,7 @@ calls_are net hosted left (datagram b bytes moment) w e =
 calls_are net hosted left (quiet moment) w e = quieted_as net hosted left (at_moment w moment)
 
 -- and where it came at another they do nothing
-pub no_calls : (net : Net) (hosted : List ℕ) (left : List Publish) (a : Arrival) (w : World)
+pub no_calls : (net : Net) (hosted : List ℕ) (left : List Request) (a : Arrival) (w : World)
     → is_ours hosted a ≡ false → in_turn (act net hosted) (arrives a ∷ acts_of net hosted left a) w ≡ unchanged w []
 unfolding act
 no_calls net hosted left (datagram b bytes moment) w e =
@@ -160,7 +161,7 @@ settling_nothing net hosted a w = go (is_ours hosted a)
     go true = settled_nothing net hosted [] w
     go false = refl
 
-pub led_is : (net : Net) (hosted : List ℕ) (left : List Publish) (a : Arrival) (w : World)
+pub led_is : (net : Net) (hosted : List ℕ) (left : List Request) (a : Arrival) (w : World)
     → in_turn (act net hosted) (arrival_acts net hosted left a) w ≡ in_turn (act net hosted) (arrives a ∷ acts_of net hosted left a) w
 led_is net hosted left a w =
     let first : Transition = in_turn (act net hosted) (arrives a ∷ acts_of net hosted left a) w in
@@ -168,16 +169,16 @@ led_is net hosted left a w =
     in_turn_append (act net hosted) (arrives a ∷ acts_of net hosted left a) (settling hosted a) w
     ∙ (followed_same first later (λ u. unchanged u []) (settling_nothing net hosted a first.world) ∙ followed_none first)
 
-pub arrival_is : (net : Net) (hosted : List ℕ) (left : List Publish) (a : Arrival) (w : World)
+pub arrival_is : (net : Net) (hosted : List ℕ) (left : List Request) (a : Arrival) (w : World)
     → is_ours hosted a ≡ true → in_turn (act net hosted) (arrival_acts net hosted left a) w ≡ comes net hosted w left a
 arrival_is net hosted left a w e = led_is net hosted left a w ∙ calls_are net hosted left a w e
 
-pub passed_over : (net : Net) (hosted : List ℕ) (left : List Publish) (a : Arrival) (w : World)
+pub passed_over : (net : Net) (hosted : List ℕ) (left : List Request) (a : Arrival) (w : World)
     → is_ours hosted a ≡ false → in_turn (act net hosted) (arrival_acts net hosted left a) w ≡ unchanged w []
 passed_over net hosted left a w e = led_is net hosted left a w ∙ no_calls net hosted left a w e
 
--- such an arrival takes no publish
-pub none_taken : (hosted : List ℕ) (left : List Publish) (a : Arrival) → is_ours hosted a ≡ false → left_after left a ≡ left
+-- such an arrival takes no request
+pub none_taken : (hosted : List ℕ) (left : List Request) (a : Arrival) → is_ours hosted a ≡ false → left_after left a ≡ left
 none_taken hosted left (datagram b bytes moment) e = refl
 none_taken hosted left (quiet moment) e = absurd (true≢false e)
 
@@ -192,19 +193,19 @@ pub ours_same : (hosted : List ℕ) (a : Arrival) (came : List Arrival) → is_o
 ours_same hosted a came e = ap (λ (c : Bool). if c then a ∷ ours hosted came else ours hosted came) e
 
 -- what the machine does at arrivals, one after another
-abbrev pub all_come : Net → List ℕ → List Publish → List Arrival → World → Transition
+abbrev pub all_come : Net → List ℕ → List Request → List Arrival → World → Transition
 all_come net hosted left [] w = unchanged w []
 all_come net hosted left (a ∷ came) w = followed_by (comes net hosted w left a) (all_come net hosted (left_after left a) came)
 
 -- the world that they leave
-pub arrived_is : (net : Net) (hosted : List ℕ) (left : List Publish) (came : List Arrival) (w : World)
+pub arrived_is : (net : Net) (hosted : List ℕ) (left : List Request) (came : List Arrival) (w : World)
     → (all_come net hosted left came w).world ≡ arrived net hosted w left came
 unfolding arrived_by
 arrived_is net hosted left [] w = refl
 arrived_is net hosted left (a ∷ came) w = arrived_is net hosted (left_after left a) came (comes net hosted w left a).world
 
 -- the lines that they tell, and then what is shown
-pub served_is : (net : Net) (hosted : List ℕ) (left : List Publish) (came : List Arrival) (w : World)
+pub served_is : (net : Net) (hosted : List ℕ) (left : List Request) (came : List Arrival) (w : World)
     → joined (served_from net hosted w left came)
     ≡ (followed_by (all_come net hosted left came w) (λ v. unchanged v (show_hosted net hosted v))).lines
 unfolding served_from_by
@@ -216,7 +217,7 @@ served_is net hosted left (a ∷ came) w =
     ∙ sym (append_assoc t.lines s.lines (show_hosted net hosted s.world))
 
 -- an arrival and those after it, whose acts are what the machine does
-come_more : (net : Net) (hosted : List ℕ) (left : List Publish) (a : Arrival) (came : List Arrival) (later : World → Transition) (w : World)
+come_more : (net : Net) (hosted : List ℕ) (left : List Request) (a : Arrival) (came : List Arrival) (later : World → Transition) (w : World)
     → ((u : World) → later u ≡ all_come net hosted (left_after left a) (ours hosted came) u)
     → followed_by (in_turn (act net hosted) (arrival_acts net hosted left a) w) later ≡ all_come net hosted left (ours hosted (a ∷ came)) w
 come_more net hosted left a came later w more = go (cases_Bool (is_ours hosted a))
@@ -231,11 +232,11 @@ come_more net hosted left a came later w more = go (cases_Bool (is_ours hosted a
     go (inr e) =
         ap (λ (s : Transition). followed_by s later) (passed_over net hosted left a w e)
         ∙ (more w
-        ∙ (ap (λ (ps : List Publish). all_come net hosted ps (ours hosted came) w) (none_taken hosted left a e)
+        ∙ (ap (λ (ps : List Request). all_come net hosted ps (ours hosted came) w) (none_taken hosted left a e)
         ∙ sym (ap (λ (xs : List Arrival). all_come net hosted left xs w) (ours_same hosted a came e))))
 
 -- the acts of all that came are what the machine does at those that are ours
-pub acts_are_arrived : (net : Net) (hosted : List ℕ) (left : List Publish) (came : List Arrival) (w : World)
+pub acts_are_arrived : (net : Net) (hosted : List ℕ) (left : List Request) (came : List Arrival) (w : World)
     → in_turn (act net hosted) (acts_from net hosted left came) w ≡ all_come net hosted left (ours hosted came) w
 unfolding acts_from
 acts_are_arrived net hosted left [] w = refl
@@ -256,9 +257,9 @@ closed_nothing net hosted false w = refl
 -- all that came, and the end
 came_as : (net : Net) (hosted : List ℕ) (steps : List Line) (came : List Arrival) (closed : Bool) (w : World)
     → in_turn (act net hosted) (run_acts net hosted steps came closed) w
-    ≡ all_come net hosted (publishes_of net hosted steps) (ours hosted came) w
+    ≡ all_come net hosted (requests_of net hosted steps) (ours hosted came) w
 came_as net hosted steps came closed w =
-    let left = publishes_of net hosted steps in
+    let left = requests_of net hosted steps in
     let s : Transition = all_come net hosted left (ours hosted came) w in
     let ending : World → Transition = in_turn (act net hosted) (closing closed) in
     settled_nothing net hosted (turn_acts net hosted steps came closed) w
@@ -275,7 +276,7 @@ shown_at_last net hosted w = followed_none (unchanged w (show_hosted net hosted 
 -- what the machine serves: the opening, what came at the hosted brokers, and what is shown
 abbrev pub serves : Net → List ℕ → List Log → List Line → List Arrival → Transition
 serves net hosted logs steps came =
-    followed_by (opening net hosted logs) (λ u. followed_by (all_come net hosted (publishes_of net hosted steps) came u)
+    followed_by (opening net hosted logs) (λ u. followed_by (all_come net hosted (requests_of net hosted steps) came u)
     (λ v. unchanged v (show_hosted net hosted v)))
 
 -- the acts of a plan do just this
@@ -306,7 +307,7 @@ plan_is_served t hosted steps came closed logs =
     middle = run_acts net hosted steps came closed
 
     came_on : World → Transition
-    came_on = all_come net hosted (publishes_of net hosted steps) (ours hosted came)
+    came_on = all_come net hosted (requests_of net hosted steps) (ours hosted came)
 
     served_on : World → Transition
     served_on u = followed_by (came_on u) (λ v. unchanged v (show_hosted net hosted v))
@@ -324,7 +325,7 @@ pub served_lines : (net : Net) (hosted : List ℕ) (logs : List Log) (steps : Li
 unfolding served_by
 served_lines net hosted logs steps came =
     let o : Transition = opening net hosted logs in
-    ap (λ (ls : List Report). o.lines ++ ls) (sym (served_is net hosted (publishes_of net hosted steps) came o.world))
+    ap (λ (ls : List Report). o.lines ++ ls) (sym (served_is net hosted (requests_of net hosted steps) came o.world))
 
 -- The acts of a plan tell what is served of what came at the hosted brokers
 pub plan_lines : (t : TopologyView) (hosted : List ℕ) (steps : List Line) (came : List Arrival) (closed : Bool) (logs : List Log)
@@ -337,9 +338,9 @@ plan_lines t hosted steps came closed logs =
 -- They leave the world after it
 pub plan_world : (t : TopologyView) (hosted : List ℕ) (steps : List Line) (came : List Arrival) (closed : Bool) (logs : List Log)
     → (in_turn (act (net_of t) hosted) (plan t hosted steps came closed) (over_logs (net_of t) logs)).world
-    ≡ arrived (net_of t) hosted (opening (net_of t) hosted logs).world (publishes_of (net_of t) hosted steps) (ours hosted came)
+    ≡ arrived (net_of t) hosted (opening (net_of t) hosted logs).world (requests_of (net_of t) hosted steps) (ours hosted came)
 plan_world t hosted steps came closed logs =
     let net = net_of t in
     let o : Transition = opening net hosted logs in
     ap (λ (s : Transition). s.world) (plan_is_served t hosted steps came closed logs)
-    ∙ arrived_is net hosted (publishes_of net hosted steps) (ours hosted came) o.world
+    ∙ arrived_is net hosted (requests_of net hosted steps) (ours hosted came) o.world

@@ -5,6 +5,9 @@ use Rattle.std.specs.Prelude.{IfOk, nat_eq, nat_lt}
 use Rattle.std.specs.List.{AllByRecursion, list_any}
 use Rattle.std.proofs.lemmas.Bool.{and_parts, eqb-true, ltb-true}
 use Rattle.std.specs.declared.alloc.AllocError.{AllocError}
+use Rattle.gr_event.specs.declared.join.Join.{Join}
+use Rattle.gr_event.specs.declared.join.Split.{Split}
+use Rattle.gr_event.specs.Joins.{first_split, longer}
 use Rattle.gr_frame.specs.declared.Body.{Body}
 use Rattle.gr_frame.specs.declared.Body.TheVariants as body
 use Rattle.gr_frame.specs.declared.Frame.{Frame}
@@ -22,14 +25,15 @@ use Rattle.gr_out.specs.Lane.{Lane}
 use Rattle.gr_publog.specs.Crash.{LogView}
 use Rattle.gr_topo.specs.Topology.{TopologyView}
 use Rattle.gr_model.specs.declared.report.Report.{Report}
-use Rattle.gr_model.specs.Net.{Net}
+use Rattle.gr_model.specs.Net.{Net, all_late}
 use Rattle.gr_model.specs.NetOf.{net_of, IsOrderly}
 use Rattle.gr_model.specs.Tree.{IsNet}
 use Rattle.gr_model.specs.Text.{IsNamed}
-use Rattle.gr_model.specs.Arrivals.{fits_broker, joins_fit, least_clash}
-use Rattle.gr_model.specs.Broker.{View, empty_log, receive}
+use Rattle.gr_model.specs.Arrivals.{fits_broker, joins_in, joins_fit, least_clash}
+use Rattle.gr_model.specs.Broker.{View, empty_log, receive, seen, taking, with_joins}
 use Rattle.gr_model_calls.specs.Edges.{GoesOverEdge}
 use Rattle.gr_model_calls.specs.Fits.{BodyFits}
+use Rattle.gr_model_calls.proofs.calls.Held.{longer_late}
 use Rattle.gr_model_calls.proofs.topology.Strays.{receive_on}
 use Rattle.gr_broker_relay.specs.declared.outcome.Outcome.{Outcome}
 use Rattle.gr_broker.specs.declared.outcome.Received.{Received}
@@ -37,11 +41,11 @@ use Rattle.gr_broker.specs.declared.outcome.Received.TheVariants as answer
 use Rattle.gr_broker.specs.declared.outcome.Dropped.TheVariants as dropped
 use Rattle.gr_broker.specs.Seen.{BrokerView, view_in, log_in, is_broken}
 use Rattle.gr_broker.specs.Of.{IsBrokerOf}
-use Rattle.gr_broker.specs.Receipt.{Receipt, no_frame, stray, clash, taken, came_at, receipt, receipt_of_fit, after_receipt, Answers}
+use Rattle.gr_broker.specs.Receipt.{Receipt, no_frame, stray, split, clash, taken, came_at, receipt, receipt_of_fit, after_receipt, Answers}
 use Rattle.gr_report.specs.Named.{AllNamed}
-use Rattle.gr_report.proofs.Names.{receive_named}
+use Rattle.gr_report.proofs.Names.{receive_named, names_with, orderly_with}
 use Rattle.gr_report.proofs.Named.{names_of, all_of}
-use Rattle.gr_report.proofs.Passing.{over_edges}
+use Rattle.gr_report.proofs.Passing.{seen_edges}
 use Rattle.gr_node.specs.Seen.{NodeView}
 use Rattle.gr_node.specs.Of.{NodeFits, AllStand}
 use Rattle.gr_node.specs.Plan.{gets}
@@ -50,32 +54,36 @@ use Rattle.gr_node.specs.Went.{Makes}
 use Rattle.gr_node.specs.Calling.{line_of_drop, IsToldOf, FollowsReceipt}
 use Rattle.gr_node.proofs.Exchanged.{Place, with_brokers, place_broker, place_number, place_whole, fits_on, stands_over, makes_on}
 
--- The four receipts
+-- The receipts
 
--- what holds of a datagram that is no frame, of one that does not fit, of one that clashes, and of one that fits and is taken holds
--- of each
-receipt_cases : (net : Net) (now : ℕ) (x : BrokerView) (P : Receipt → Type 0) → ((e : FrameFault) → P (no_frame e)) → ((h : Head) → P (stray h)) → ((t : ℕ) (k c : K) → P (clash t k c))
-    → ((f : Frame) → fits_broker net x.number f ≡ true → P (taken (receive net now f (view_in x f.head.publisher) empty_log))) → (r : Result Frame FrameFault) → P (receipt net now x r)
+-- what holds of a datagram that is no frame, of one that does not fit, of one whose joins split, of one that clashes, and of one that
+-- fits and is taken holds of each
+receipt_cases : (net : Net) (now : ℕ) (x : BrokerView) (P : Receipt → Type 0) → ((e : FrameFault) → P (no_frame e)) → ((h : Head) → P (stray h)) → ((s : Split) → P (split s)) → ((t : ℕ) (k c : K) → P (clash t k c))
+    → ((f : Frame) → fits_broker net x.number f ≡ true → P (taken (receive (seen net (taking (view_in x f.head.publisher) f)) now f (view_in x f.head.publisher) empty_log))) → (r : Result Frame FrameFault) → P (receipt net now x r)
 unfolding receipt receipt_of_fit
-receipt_cases net now x P no_frames strays clashed takes (Err e) = no_frames e
-receipt_cases net now x P no_frames strays clashed takes (Ok f) = by_fit (fits_broker net x.number f) refl
+receipt_cases net now x P no_frames strays splits clashed takes (Err e) = no_frames e
+receipt_cases net now x P no_frames strays splits clashed takes (Ok f) = by_fit (fits_broker net x.number f) refl
   where
     v : View
     v = view_in x f.head.publisher
 
-    found : Option ℕ → Receipt
-    found c = elim c [ Some t ↦ clash t (known_at v.know t) (came_at f t) | None ↦ taken (receive net now f v empty_log) ]
+    found : Option Split → Option ℕ → Receipt
+    found s c = elim s [
+      | Some y ↦ split y
+      | None ↦ elim c [ Some t ↦ clash t (known_at v.know t) (came_at f t) | None ↦ taken (receive (seen net (taking v f)) now f v empty_log) ]
+    ]
 
     said : Bool → Receipt
-    said q = elim q [ false ↦ stray f.head | true ↦ found (least_clash v.know f) ]
+    said q = elim q [ false ↦ stray f.head | true ↦ found (first_split 0 v.joins (joins_in f)) (least_clash v.know f) ]
 
-    by_clash : (c : Option ℕ) → fits_broker net x.number f ≡ true → P (found c)
-    by_clash (Some t) e = clashed t (known_at v.know t) (came_at f t)
-    by_clash None e = takes f e
+    by_kept : (s : Option Split) (c : Option ℕ) → fits_broker net x.number f ≡ true → P (found s c)
+    by_kept (Some y) c e = splits y
+    by_kept None (Some t) e = clashed t (known_at v.know t) (came_at f t)
+    by_kept None None e = takes f e
 
     by_fit : (q : Bool) → fits_broker net x.number f ≡ q → P (said q)
     by_fit false e = strays f.head
-    by_fit true e = by_clash (least_clash v.know f) e
+    by_fit true e = by_kept (first_split 0 v.joins (joins_in f)) (least_clash v.know f) e
 
 -- A frame that fits
 
@@ -83,12 +91,14 @@ pub record IsFitting (net : Net) (b : ℕ) (f : Frame) : Type 0 where
   pub to : f.head.to ≡ b
   pub publisher : f.head.publisher < net.publishers
   pub body : BodyFits net f.head.publisher f.head.from f.head.to f.body
+  pub joins : all_late net (joins_in f) ≡ true
 
 fitting : (net : Net) (b : ℕ) (f : Frame) → fits_broker net b f ≡ true → IsFitting net b f
 fitting net b f e = record {
   to = to;
   publisher = ltb-true f.head.publisher net.publishers (and_parts (nat_eq f.head.to b) (nat_lt f.head.publisher net.publishers) parts.0).1;
   body = go f.body parts.1;
+  joins = fits.1;
 }
   where
     over : Body → Bool
@@ -97,9 +107,11 @@ fitting net b f e = record {
       | _ ↦ elim (net.up f.head.publisher b) [ Some u ↦ nat_eq u f.head.from | None ↦ false ]
     ]
 
+    fits : (((nat_eq f.head.to b && nat_lt f.head.publisher net.publishers) && over f.body) ≡ true) × (joins_fit net f ≡ true)
+    fits = and_parts ((nat_eq f.head.to b && nat_lt f.head.publisher net.publishers) && over f.body) (joins_fit net f) e
+
     parts : ((nat_eq f.head.to b && nat_lt f.head.publisher net.publishers) ≡ true) × (over f.body ≡ true)
-    parts = and_parts (nat_eq f.head.to b && nat_lt f.head.publisher net.publishers) (over f.body)
-        (and_parts ((nat_eq f.head.to b && nat_lt f.head.publisher net.publishers) && over f.body) (joins_fit net f) e).0
+    parts = and_parts (nat_eq f.head.to b && nat_lt f.head.publisher net.publishers) (over f.body) fits.0
 
     to : f.head.to ≡ b
     to = eqb-true f.head.to b (and_parts (nat_eq f.head.to b) (nat_lt f.head.publisher net.publishers) parts.0).0
@@ -123,20 +135,45 @@ fault_named kind.Trailing n = (omega arith, omega arith)
 fault_named kind.TooLong n = (omega arith, omega arith)
 fault_named kind.BadJoins n = (omega arith, omega arith)
 
-module _ (t : TopologyView) (now b : ℕ) (x : BrokerView) (lt : b < length t.brokers) (number : x.number ≡ b) (tree : IsNet (net_of t)) (orderly : IsOrderly (net_of t)) where
+-- what is held then has the joins of late subscribers alone
+taking_late : (net : Net) (v : View) (f : Frame) → all_late net v.joins ≡ true → all_late net (joins_in f) ≡ true → all_late net (taking v f).joins ≡ true
+taking_late net v f held came = go f.body came
+  where
+    go : (y : Body) → all_late net (elim y [ body.Knowledge runs js ↦ js | _ ↦ [] ]) ≡ true
+        → all_late net (let u : View = elim y [ body.Knowledge runs js ↦ with_joins v (longer v.joins js) | _ ↦ v ] in u.joins) ≡ true
+    go (body.Knowledge runs js) h = longer_late net v.joins js held h
+    go (body.Curiosity runs) h = held
+    go (body.Expect tick) h = held
+
+module _ (t : TopologyView) (now b : ℕ) (x : BrokerView) (is : IsBrokerOf t x) (lt : b < length t.brokers) (number : x.number ≡ b) (tree : IsNet (net_of t)) (orderly : IsOrderly (net_of t)) where
+  -- the net at which a frame is taken
+  abbrev shown_by : Frame → Net
+  shown_by f = seen (net_of t) (taking (view_in x f.head.publisher) f)
+
+  -- at which it comes from where it should
+  fits_shown : (f : Frame) → IsFitting (net_of t) x.number f → BodyFits (shown_by f) f.head.publisher f.head.from f.head.to f.body
+  fits_shown f fit = go f.body fit.body
+    where
+      go : (y : Body) → BodyFits (net_of t) f.head.publisher f.head.from f.head.to y → BodyFits (shown_by f) f.head.publisher f.head.from f.head.to y
+      go (body.Knowledge runs js) h = h
+      go (body.Curiosity runs) h = h
+      go (body.Expect tick) h = h
+
   -- what is sent goes over edges
   receipt_over : (r : Result Frame FrameFault) → AllByRecursion (GoesOverEdge (net_of t)) (receipt_frames (receipt (net_of t) now x r))
-  receipt_over r = receipt_cases (net_of t) now x (λ a. AllByRecursion (GoesOverEdge (net_of t)) (receipt_frames a)) (λ e. tt) (λ h. tt) (λ k v c. tt) takes r
+  receipt_over r = receipt_cases (net_of t) now x (λ a. AllByRecursion (GoesOverEdge (net_of t)) (receipt_frames a)) (λ e. tt) (λ h. tt) (λ s. tt) (λ k v c. tt) takes r
     where
-      takes : (f : Frame) → fits_broker (net_of t) x.number f ≡ true → AllByRecursion (GoesOverEdge (net_of t)) (receive (net_of t) now f (view_in x f.head.publisher) empty_log).frames
+      takes : (f : Frame) → fits_broker (net_of t) x.number f ≡ true → AllByRecursion (GoesOverEdge (net_of t)) (receive (shown_by f) now f (view_in x f.head.publisher) empty_log).frames
       takes f e =
           let fit : IsFitting (net_of t) x.number f = fitting (net_of t) x.number f e in
-          all_of (GoesOverEdge (net_of t)) _ (receive_on (net_of t) now (GoesOverEdge (net_of t)) f (view_in x f.head.publisher) empty_log
-          (over_edges (net_of t) f.head.publisher f.head.to tree fit.publisher (subst (λ c. c < length t.brokers) (sym (fit.to ∙ number)) lt)) fit.body)
+          let v : View = view_in x f.head.publisher in
+          let late : all_late (net_of t) (taking v f).joins ≡ true = taking_late (net_of t) v f (is.kept f.head.publisher fit.publisher).joins fit.joins in
+          all_of (GoesOverEdge (net_of t)) _ (receive_on (shown_by f) now (GoesOverEdge (net_of t)) f v empty_log
+          (seen_edges (net_of t) (taking v f) f.head.publisher f.head.to tree fit.publisher (subst (λ c. c < length t.brokers) (sym (fit.to ∙ number)) lt) late) (fits_shown f fit))
 
   -- what is told is named
   receipt_named : (a : Received) (r : Result Frame FrameFault) → Answers a (receipt (net_of t) now x r) → AllNamed t (receipt_lines b (receipt (net_of t) now x r))
-  receipt_named a r = receipt_cases (net_of t) now x (λ u. Answers a u → AllNamed t (receipt_lines b u)) no_frames (λ h s. (lt, tt)) (λ k v c s. (lt, tt)) takes r
+  receipt_named a r = receipt_cases (net_of t) now x (λ u. Answers a u → AllNamed t (receipt_lines b u)) no_frames (λ h s. (lt, tt)) (λ y s. (lt, tt)) (λ k v c s. (lt, tt)) takes r
     where
       no_frames : (e : FrameFault) → Answers a (no_frame e) → AllNamed t (receipt_lines b (no_frame e))
       no_frames e s = go a s
@@ -146,11 +183,14 @@ module _ (t : TopologyView) (now b : ℕ) (x : BrokerView) (lt : b < length t.br
           go (answer.Dropped (dropped.NotFrame f)) s =
               let k = fault_named e.kind (subst (λ (z : FrameFault). z.kind ≢ kind.Memory) s.0 s.1) in ((lt, k.0, k.1), tt)
           go (answer.Dropped (dropped.Stray h)) s = absurd s
+          go (answer.Dropped (dropped.Split at kept came)) s = absurd s
           go (answer.Dropped (dropped.Clash c)) s = absurd s
 
-      takes : (f : Frame) → fits_broker (net_of t) x.number f ≡ true → Answers a (taken (receive (net_of t) now f (view_in x f.head.publisher) empty_log))
-          → AllNamed t (receive (net_of t) now f (view_in x f.head.publisher) empty_log).lines
-      takes f e s = all_of (IsNamed t) _ (receive_named (net_of t) (IsNamed t) now f (view_in x f.head.publisher) empty_log (names_of t) orderly (fitting (net_of t) x.number f e).publisher)
+      takes : (f : Frame) → fits_broker (net_of t) x.number f ≡ true → Answers a (taken (receive (shown_by f) now f (view_in x f.head.publisher) empty_log))
+          → AllNamed t (receive (shown_by f) now f (view_in x f.head.publisher) empty_log).lines
+      takes f e s =
+          all_of (IsNamed t) _ (receive_named (shown_by f) (IsNamed t) now f (view_in x f.head.publisher) empty_log
+          (names_with (net_of t) _ (IsNamed t) (names_of t)) (orderly_with (net_of t) _ orderly) (fitting (net_of t) x.number f e).publisher)
 
 -- What is told of a datagram, in lines and frames
 
@@ -171,6 +211,13 @@ told_of b (answer.Dropped (dropped.Stray g)) (stray e) told s h = record {
   lines = h.0 ∙ ap (λ (z : Head). line_of_drop b (dropped.Stray z) ∷ []) s;
   spelled = subst (λ fs. AreFrames fs []) (sym h.1) tt;
 }
+told_of b (answer.Dropped (dropped.Split at kept came)) (split y) told s h = record {
+  lines = h.0 ∙ (ap (λ z. made z kept came) s.0 ∙ (ap (λ z. made y.at z came) s.1 ∙ ap (λ z. made y.at y.kept z) s.2));
+  spelled = subst (λ fs. AreFrames fs []) (sym h.1) tt;
+}
+  where
+    made : ℕ → Join → Join → List Report
+    made at kept came = line_of_drop b (dropped.Split at kept came) ∷ []
 told_of b (answer.Dropped (dropped.Clash c)) (clash k v w) told s h = record {
   lines = h.0 ∙ (ap (λ z. made z c.kept c.came) s.0 ∙ (ap (λ z. made k z c.came) s.1 ∙ ap (λ z. made k v z) s.2));
   spelled = subst (λ fs. AreFrames fs []) (sym h.1) tt;
@@ -180,15 +227,23 @@ told_of b (answer.Dropped (dropped.Clash c)) (clash k v w) told s h = record {
     made k v w = receipt_lines b (clash k v w)
 told_of b (answer.Taken o) (no_frame e) told s h = absurd s
 told_of b (answer.Taken o) (stray e) told s h = absurd s
+told_of b (answer.Taken o) (split y) told s h = absurd s
 told_of b (answer.Taken o) (clash k v w) told s h = absurd s
 told_of b (answer.Dropped (dropped.NotFrame f)) (stray e) told s h = absurd s
+told_of b (answer.Dropped (dropped.NotFrame f)) (split y) told s h = absurd s
 told_of b (answer.Dropped (dropped.NotFrame f)) (clash k v w) told s h = absurd s
 told_of b (answer.Dropped (dropped.NotFrame f)) (taken m) told s h = absurd s
 told_of b (answer.Dropped (dropped.Stray g)) (no_frame e) told s h = absurd s
+told_of b (answer.Dropped (dropped.Stray g)) (split y) told s h = absurd s
 told_of b (answer.Dropped (dropped.Stray g)) (clash k v w) told s h = absurd s
 told_of b (answer.Dropped (dropped.Stray g)) (taken m) told s h = absurd s
+told_of b (answer.Dropped (dropped.Split at kept came)) (no_frame e) told s h = absurd s
+told_of b (answer.Dropped (dropped.Split at kept came)) (stray e) told s h = absurd s
+told_of b (answer.Dropped (dropped.Split at kept came)) (clash k v w) told s h = absurd s
+told_of b (answer.Dropped (dropped.Split at kept came)) (taken m) told s h = absurd s
 told_of b (answer.Dropped (dropped.Clash c)) (no_frame e) told s h = absurd s
 told_of b (answer.Dropped (dropped.Clash c)) (stray e) told s h = absurd s
+told_of b (answer.Dropped (dropped.Clash c)) (split y) told s h = absurd s
 told_of b (answer.Dropped (dropped.Clash c)) (taken m) told s h = absurd s
 
 -- What a receipt leaves: the number and the logs of the broker stay
@@ -197,6 +252,7 @@ receipt_number : (r : Result Frame FrameFault) (u : Receipt) (x : BrokerView) �
 receipt_number (Err e) u x = refl
 receipt_number (Ok f) (no_frame e) x = refl
 receipt_number (Ok f) (stray h) x = refl
+receipt_number (Ok f) (split s) x = refl
 receipt_number (Ok f) (clash t k c) x = refl
 receipt_number (Ok f) (taken o) x = refl
 
@@ -204,6 +260,7 @@ receipt_logs : (r : Result Frame FrameFault) (u : Receipt) (x : BrokerView) → 
 receipt_logs (Err e) u x = refl
 receipt_logs (Ok f) (no_frame e) x = refl
 receipt_logs (Ok f) (stray h) x = refl
+receipt_logs (Ok f) (split s) x = refl
 receipt_logs (Ok f) (clash t k c) x = refl
 receipt_logs (Ok f) (taken o) x = refl
 
@@ -261,7 +318,7 @@ module _ (t : TopologyView) (n : NodeView) (b : ℕ) (r : Result Frame FrameFaul
       let says : Answers a answered = subst (λ (y : Result Received AllocError). IfOk y (λ a. Answers a answered)) e k.says in
       let tells : TellsReceipt b answered told = told_of b a answered told says h in
       makes_on t n b x after bs s (gets b r) (receipt_lines b answered) (receipt_frames answered) told (done (left a e)) tells.lines tells.spelled
-      (receipt_over t n.now b x lt (place_number t n b x after bs s) tree orderly r) (receipt_named t n.now b x lt (place_number t n b x after bs s) tree orderly a r says))
+      (receipt_over t n.now b x (place_broker t n b x after bs s) lt (place_number t n b x after bs s) tree orderly r) (receipt_named t n.now b x (place_broker t n b x after bs s) lt (place_number t n b x after bs s) tree orderly a r says))
 
   pub fits_receive : OnOk result (NodeFits t (with_brokers n bs))
   fits_receive =

@@ -10,7 +10,7 @@ use Rattle.gr_topo.specs.Topology.{TopologyView}
 use Rattle.gr_sched.specs.declared.step.Line.{Line}
 use Rattle.gr_model.specs.Net.{Net}
 use Rattle.gr_model.specs.NetOf.{net_of}
-use Rattle.gr_model.specs.Arrivals.{Arrival, Publish, publishes_of, left_after}
+use Rattle.gr_model.specs.Arrivals.{Arrival, Request, requests_of, left_after}
 use Rattle.gr_model.specs.Orders.{ordered}
 use Rattle.gr_model_theorems.specs.Served.{IsOfBytes}
 use Rattle.gr_report.specs.Named.{IsPutFault}
@@ -22,13 +22,13 @@ use Rattle.gr_node.proofs.Acting.{all_append}
 use Rattle.gr_node.proofs.Wending.{MadeAll, made_none, all_made, went_ok, went_on, went_cut, went_as, went_front, went_settles, begins_nothing}
 
 -- what is left after more came
-left_later : (left : List Publish) (came more : List Arrival) → left_behind (left_behind left came) more ≡ left_behind left (came ++ more)
+left_later : (left : List Request) (came more : List Arrival) → left_behind (left_behind left came) more ≡ left_behind left (came ++ more)
 unfolding left_behind
 left_later left [] more = refl
 left_later left (a ∷ came) more = left_later (left_after left a) came more
 
 -- the acts of what came, and then of more
-pub acts_later : (net : Net) (hosted : List ℕ) (left : List Publish) (came more : List Arrival) → acts_from net hosted left (came ++ more) ≡ acts_from net hosted left came ++ acts_from net hosted (left_behind left came) more
+pub acts_later : (net : Net) (hosted : List ℕ) (left : List Request) (came more : List Arrival) → acts_from net hosted left (came ++ more) ≡ acts_from net hosted left came ++ acts_from net hosted (left_behind left came) more
 unfolding left_behind acts_from
 acts_later net hosted left [] more = refl
 acts_later net hosted left (a ∷ came) more =
@@ -40,12 +40,12 @@ pub record SoFar (t : TopologyView) (hosted : List ℕ) (tells : Type 0) (steps 
   pub came : List Arrival
   pub length_is : length came ≡ count
   pub bytes : AllByRecursion IsOfBytes came
-  pub left : publishes_of (net_of t) hosted (drop next steps) ≡ left_behind (publishes_of (net_of t) hosted steps) came
-  pub goes : MadeAll t hosted tells (acts_from (net_of t) hosted (publishes_of (net_of t) hosted steps) came) n n' o o'
+  pub left : requests_of (net_of t) hosted (drop next steps) ≡ left_behind (requests_of (net_of t) hosted steps) came
+  pub goes : MadeAll t hosted tells (acts_from (net_of t) hosted (requests_of (net_of t) hosted steps) came) n n' o o'
   pub stood : P came  -- what else holds of what came
 
 -- none yet
-pub none_came : (t : TopologyView) (hosted : List ℕ) (tells : Type 0) (steps : List Line) (next : ℕ) (n : NodeView) (o : Outside) (P : List Arrival → Type 0) → publishes_of (net_of t) hosted (drop next steps) ≡ publishes_of (net_of t) hosted steps
+pub none_came : (t : TopologyView) (hosted : List ℕ) (tells : Type 0) (steps : List Line) (next : ℕ) (n : NodeView) (o : Outside) (P : List Arrival → Type 0) → requests_of (net_of t) hosted (drop next steps) ≡ requests_of (net_of t) hosted steps
     → P [] → SoFar t hosted tells steps next 0 n n o o P
 unfolding left_behind acts_from
 none_came t hosted tells steps next n o P e h = record { came = []; length_is = refl; bytes = tt; left = e; goes = made_none t hosted tells n n o o refl refl refl refl; stood = h }
@@ -53,13 +53,13 @@ none_came t hosted tells steps next n o P e h = record { came = []; length_is = 
 -- a turn's acts stand behind those before
 turn_on : {T : Type 0} (t : TopologyView) (hosted : List ℕ) (tells : Type 0) (steps : List Line) (next count : ℕ) (n m n' : NodeView) (o u o' : Outside) (P : List Arrival → Type 0) (came : List Arrival) (shut : Bool) (r : Result T RunFault)
     → (s : SoFar t hosted tells steps next count n m o u P)
-    → Went {T = T} t hosted tells (acts_from (net_of t) hosted (publishes_of (net_of t) hosted (drop next steps)) came ++ closing shut) m n' u o' r
+    → Went {T = T} t hosted tells (acts_from (net_of t) hosted (requests_of (net_of t) hosted (drop next steps)) came ++ closing shut) m n' u o' r
     → Went {T = T} t hosted tells (turn_acts (net_of t) hosted steps (s.came ++ came) shut) n n' o o' r
 turn_on {T} t hosted tells steps next count n m n' o u o' P came shut r s w =
-    let before : List Act = acts_from (net_of t) hosted (publishes_of (net_of t) hosted steps) s.came in
-    let later : List Act = acts_from (net_of t) hosted (left_behind (publishes_of (net_of t) hosted steps) s.came) came in
+    let before : List Act = acts_from (net_of t) hosted (requests_of (net_of t) hosted steps) s.came in
+    let later : List Act = acts_from (net_of t) hosted (left_behind (requests_of (net_of t) hosted steps) s.came) came in
     subst (λ acts. Went {T = T} t hosted tells acts n n' o o' r)
-    (sym (append_assoc before later (closing shut)) ∙ ap (λ acts. acts ++ closing shut) (sym (acts_later (net_of t) hosted (publishes_of (net_of t) hosted steps) s.came came)))
+    (sym (append_assoc before later (closing shut)) ∙ ap (λ acts. acts ++ closing shut) (sym (acts_later (net_of t) hosted (requests_of (net_of t) hosted steps) s.came came)))
     (went_on t hosted tells before (later ++ closing shut) n m n' o u o' r s.goes
     (subst (λ left. Went {T = T} t hosted tells (acts_from (net_of t) hosted left came ++ closing shut) m n' u o' r) s.left w))
 
@@ -69,12 +69,12 @@ pub more_came : (t : TopologyView) (hosted : List ℕ) (tells : Type 0) (steps :
 more_came t hosted tells steps next next' count n m n' o u o' P Q goes_on e s turned holds =
     let w : Turned t hosted tells steps next next' m n' u o' (Ok true) = subst (λ (b : Bool). Turned t hosted tells steps next next' m n' u o' (Ok b)) e turned in
     let went : Went {T = Bool} t hosted tells (turn_acts (net_of t) hosted steps (s.came ++ w.came) w.shut) n n' o o' (Ok true) = turn_on t hosted tells steps next count n m n' o u o' P w.came w.shut (Ok true) s w.went in
-    let all : List Act = acts_from (net_of t) hosted (publishes_of (net_of t) hosted steps) (s.came ++ w.came) in
+    let all : List Act = acts_from (net_of t) hosted (requests_of (net_of t) hosted steps) (s.came ++ w.came) in
     record {
       came = s.came ++ w.came;
       length_is = length-append s.came w.came ∙ ap₂ (λ a b. a + b) s.length_is w.ends.0;
       bytes = all_append IsOfBytes s.came w.came s.bytes w.bytes;
-      left = w.left ∙ ap (λ left. left_behind left w.came) s.left ∙ left_later (publishes_of (net_of t) hosted steps) s.came w.came;
+      left = w.left ∙ ap (λ left. left_behind left w.came) s.left ∙ left_later (requests_of (net_of t) hosted steps) s.came w.came;
       goes = subst (λ acts. MadeAll t hosted tells acts n n' o o') (ap (λ shut. all ++ closing shut) w.ends.1 ∙ append-nil all)
           (all_made t hosted tells (turn_acts (net_of t) hosted steps (s.came ++ w.came) w.shut) n n' o o' true went);
       stood = holds w.came (omega (arith, w.ends.0));
@@ -90,7 +90,7 @@ Ran t hosted tells steps turns n n' o o' P result =
 pub ran_all : (t : TopologyView) (hosted : List ℕ) (tells : Type 0) (steps : List Line) (next count turns : ℕ) (n n' : NodeView) (o o' : Outside) (P : List Arrival → Type 0) (x : Unit {0}) → count ≡ turns → SoFar t hosted tells steps next count n n' o o' P
     → Ran t hosted tells steps turns n n' o o' P (Ok x)
 ran_all t hosted tells steps next count turns n n' o o' P x e s =
-    let all : List Act = acts_from (net_of t) hosted (publishes_of (net_of t) hosted steps) s.came in
+    let all : List Act = acts_from (net_of t) hosted (requests_of (net_of t) hosted steps) s.came in
     let length_is : length s.came ≡ turns = s.length_is ∙ e in (
       s.came,
       (

@@ -7,7 +7,7 @@ use Rattle.gr_note.specs.declared.note.Note.TheVariants.{Next, Spent}
 use Rattle.gr_pubend.specs.declared.answers.Published.{Published}
 use Rattle.gr_pubend.specs.declared.answers.Published.TheVariants.{Logged, Already, Gap, Exhausted}
 use Rattle.gr_model.specs.Net.{Net}
-use Rattle.gr_model.specs.Broker.{View, Log, Outcome, empty_log, max_tick, with_event, publish, published}
+use Rattle.gr_model.specs.Broker.{View, Log, Outcome, empty_log, max_tick, with_event, publish, published, seen}
 use Rattle.gr_model.specs.World.{World, Transition, view_of, log_of, absorbed, publish_now, publish_now_by}
 use Rattle.gr_model.specs.Arrivals.{Publish}
 use Rattle.gr_model_calls.proofs.calls.HostCases.{publish_cases, news_of}
@@ -64,6 +64,7 @@ module _ (x : Publish) where
   unfolding publish_now_by absorbed
   spent_where_exhausted net w below =
       let b : ℕ = net.host x.0 in
-      let o : Outcome = publish net x.0 b w.clock number x.1.1 (view_of w b x.0) (log_of w x.0) in
+      let shown : Net = seen net (view_of w b x.0) in
+      let o : Outcome = publish shown x.0 b w.clock number x.1.1 (view_of w b x.0) (log_of w x.0) in
       subst (λ (l : Log). SaysSpent l.last (published (log_of w x.0) number x.1.1 w.clock)) (sym (get_or-set_same w.logs x.0 o.log empty_log below))
-      (spent_is net b w.clock (view_of w b x.0) (log_of w x.0))
+      (spent_is shown b w.clock (view_of w b x.0) (log_of w x.0))

@@ -23,11 +23,11 @@ use Rattle.gr_model.specs.NetOf.{net_of}
 use Rattle.gr_model.specs.Broker.{Log, empty_log}
 use Rattle.gr_model.specs.World.{Transition, log_of}
 use Rattle.gr_model.specs.Opening.{reopened_log, over_logs}
-use Rattle.gr_model.specs.Arrivals.{Arrival, datagram, quiet, Publish, publisher_of, takes_notes, submitted_in, is_hosted, is_scheduled, publishes_of, left_after}
+use Rattle.gr_model.specs.Arrivals.{Arrival, datagram, quiet, Publish, Request, asks_publish, asks_join, publisher_of, takes_notes, submitted_in, is_hosted, is_scheduled, requests_of, left_after}
 use Rattle.gr_model_theorems.specs.Lanes.{whole_logs}
 use Rattle.gr_model_theorems.proofs.records.Recorded.{get_map}
 use Rattle.gr_model_calls.proofs.runs.Schedules.{get_numbers, length_numbers}
-use Rattle.gr_node.specs.Plan.{Call, gets, wakes, Act, binds, starts, calls, settles, shows, is_ours, publish_calls, wake_calls, submit_acts, note_acts, datagram_acts, acts_of, settling, led_to, acts_from, closing, turn_acts, run_acts, nodes, plan, all_entries}
+use Rattle.gr_node.specs.Plan.{Call, gets, wakes, Act, binds, starts, calls, settles, shows, is_ours, request_calls, wake_calls, submit_acts, note_acts, datagram_acts, acts_of, settling, led_to, acts_from, closing, turn_acts, run_acts, nodes, plan, all_entries}
 use Rattle.gr_node.specs.Served.{Course, world_before}
 use Rattle.gr_node.specs.Submitted.{IsSubmission, AreSubmissions, IsFirstOf, Logs, log_found, after_acts, AreFirst, IsOfClient, offers_next}
 use Rattle.gr_node.proofs.Acting.{all_front, all_append}
@@ -38,9 +38,13 @@ use Rattle.gr_node.proofs.Replying.{acts_say}
 
 -- What a plan publishes
 
--- where these publishes, and those that notes submit, are so
-abbrev pub ArePublishes : ℕ → (ℕ → Event → Type 0) → List Publish → Type 0
-ArePublishes p P left = AllByRecursion (λ x. x.0 ≡ p → P x.1.0 x.1.1) left
+-- where what these requests publish, and what notes submit, is so
+abbrev pub IsRequest : ℕ → (ℕ → Event → Type 0) → Request → Type 0
+IsRequest p P (asks_publish q number e) = q ≡ p → P number e
+IsRequest p P (asks_join s q) = Unit {0}
+
+abbrev pub AreRequests : ℕ → (ℕ → Event → Type 0) → List Request → Type 0
+AreRequests p P left = AllByRecursion (IsRequest p P) left
 
 abbrev pub IsNoted : Net → ℕ → (ℕ → Event → Type 0) → Arrival → Type 0
 IsNoted net p P (datagram b bytes moment) = (n : Note) (x : Publish) → note_decoded bytes ≡ Ok n → submitted_in net b n ≡ Some x → x.0 ≡ p → P x.1.0 x.1.1
@@ -65,11 +69,12 @@ module _ (p : ℕ) (P : ℕ → Event → Type 0) where
   wakes_fine publishers [] = tt
   wakes_fine publishers (b ∷ bs) = map_append (wake_calls publishers b) (flat_map (wake_calls publishers) bs) (woken_fine b (numbers publishers)) (wakes_fine publishers bs)
 
-  first_fine : (left : List Publish) → ArePublishes p P left → AreFine (map calls (publish_calls left))
+  first_fine : (left : List Request) → AreRequests p P left → AreFine (map calls (request_calls left))
   first_fine [] h = tt
-  first_fine (x ∷ left) h = (h.0, tt)
+  first_fine (asks_publish q number e ∷ left) h = (h.0, tt)
+  first_fine (asks_join s q ∷ left) h = (tt, tt)
 
-  left_fine : (left : List Publish) (a : Arrival) → ArePublishes p P left → ArePublishes p P (left_after left a)
+  left_fine : (left : List Request) (a : Arrival) → AreRequests p P left → AreRequests p P (left_after left a)
   left_fine left (datagram b bytes moment) h = h
   left_fine [] (quiet moment) h = tt
   left_fine (x ∷ left) (quiet moment) h = h.1
@@ -89,14 +94,14 @@ module _ (p : ℕ) (P : ℕ → Event → Type 0) where
       go true = noted_fine net b (note_decoded bytes) h
       go false = (tt, tt)
 
-  arrival_fine : (net : Net) (hosted : List ℕ) (left : List Publish) (a : Arrival) → ArePublishes p P left → IsNoted net p P a → AreFine (acts_of net hosted left a)
+  arrival_fine : (net : Net) (hosted : List ℕ) (left : List Request) (a : Arrival) → AreRequests p P left → IsNoted net p P a → AreFine (acts_of net hosted left a)
   arrival_fine net hosted left (datagram b bytes moment) h noted = go (is_among hosted b)
     where
       go : (c : Bool) → AreFine (if c then datagram_acts net b bytes else [])
       go true = datagram_fine net b bytes moment noted
       go false = tt
   arrival_fine net hosted left (quiet moment) h noted =
-      map_append (publish_calls left) (flat_map (wake_calls net.publishers) hosted) (first_fine left h) (wakes_fine net.publishers hosted)
+      map_append (request_calls left) (flat_map (wake_calls net.publishers) hosted) (first_fine left h) (wakes_fine net.publishers hosted)
 
   settling_fine : (hosted : List ℕ) (a : Arrival) → AreFine (settling hosted a)
   settling_fine hosted a = go (is_ours hosted a)
@@ -105,7 +110,7 @@ module _ (p : ℕ) (P : ℕ → Event → Type 0) where
       go true = (tt, tt)
       go false = tt
 
-  came_fine : (net : Net) (hosted : List ℕ) (left : List Publish) (came : List Arrival) → ArePublishes p P left → AllByRecursion (IsNoted net p P) came → AreFine (acts_from net hosted left came)
+  came_fine : (net : Net) (hosted : List ℕ) (left : List Request) (came : List Arrival) → AreRequests p P left → AllByRecursion (IsNoted net p P) came → AreFine (acts_from net hosted left came)
   unfolding acts_from
   came_fine net hosted left [] h noted = tt
   came_fine net hosted left (a ∷ came) h noted = (
@@ -127,12 +132,12 @@ module _ (p : ℕ) (P : ℕ → Event → Type 0) where
   starts_fine (b ∷ bs) = (tt, starts_fine bs)
 
   -- then all acts of the plan are
-  plan_fine : (t : TopologyView) (hosted : List ℕ) (steps : List Line) (came : List Arrival) (closed : Bool) → ArePublishes p P (publishes_of (net_of t) hosted steps)
+  plan_fine : (t : TopologyView) (hosted : List ℕ) (steps : List Line) (came : List Arrival) (closed : Bool) → AreRequests p P (requests_of (net_of t) hosted steps)
       → AllByRecursion (IsNoted (net_of t) p P) came → AreFine (plan t hosted steps came closed)
   unfolding plan
   plan_fine t hosted steps came closed h noted =
       let net : Net = net_of t in
-      let left : List Publish = publishes_of net hosted steps in
+      let left : List Request = requests_of net hosted steps in
       let ran : List Act = run_acts net hosted steps came closed in
       let turns : List Act = turn_acts net hosted steps came closed in
       let turns_fine : AreFine (turns ++ shows ∷ []) =
@@ -142,7 +147,7 @@ module _ (p : ℕ) (P : ℕ → Event → Type 0) where
       (fine_append (map starts hosted) (ran ++ shows ∷ []) (starts_fine hosted) (tt, turns_fine))
 
   -- and so are the first of them
-  first_are : (t : TopologyView) (hosted : List ℕ) (steps : List Line) (c : Course) (done : List Act) → AreFirst t hosted steps c done → ArePublishes p P (publishes_of (net_of t) hosted steps)
+  first_are : (t : TopologyView) (hosted : List ℕ) (steps : List Line) (c : Course) (done : List Act) → AreFirst t hosted steps c done → AreRequests p P (requests_of (net_of t) hosted steps)
       → AllByRecursion (IsNoted (net_of t) p P) c.came → AreFine done
   first_are t hosted steps c done first h noted =
       all_front (IsFine p P) done first.left (subst AreFine (sym first.parts) (plan_fine t hosted steps c.came c.closed h noted))
@@ -157,6 +162,10 @@ all_pass {X} P each (x ∷ xs) = (each x, all_pass {X = X} P each xs)
 abbrev any_event : ℕ → Event → Type 0
 any_event n e = Unit {0}
 
+any_request : (p : ℕ) (x : Request) → IsRequest p any_event x
+any_request p (asks_publish q number e) = λ same. tt
+any_request p (asks_join s q) = tt
+
 any_noted : (net : Net) (p : ℕ) (a : Arrival) → IsNoted net p any_event a
 any_noted net p (datagram b bytes moment) = λ n x d s e. tt
 any_noted net p (quiet moment) = tt
@@ -168,13 +177,14 @@ abbrev is_of : List Event → ℕ → Event → Type 0
 is_of es n e = (k : ℕ) → n ≡ suc k → slice_get es k ≡ Some e
 
 -- a publisher with a client is not scheduled, so no step of the schedule publishes for it
-scheduled_not : (t : TopologyView) (hosted : List ℕ) (p : ℕ) (es : List Event) → IsSome (client_of t p) → (s : Step) → ArePublishes p (is_of es) (elim s [
-  | step.Publish q number stop e ↦ if is_scheduled (net_of t) hosted q then (q, (number, e)) ∷ [] else []
+scheduled_not : (t : TopologyView) (hosted : List ℕ) (p : ℕ) (es : List Event) → IsSome (client_of t p) → (s : Step) → AreRequests p (is_of es) (elim s [
+  | step.Publish q number stop e ↦ if is_scheduled (net_of t) hosted q then asks_publish q number e ∷ [] else []
+  | step.Join s q ↦ if is_hosted (net_of t) hosted q then asks_join s q ∷ [] else []
   | _ ↦ []
 ])
 scheduled_not t hosted p es client (step.Publish q number stop e) = go (is_scheduled (net_of t) hosted q) refl
   where
-    go : (c : Bool) → is_scheduled (net_of t) hosted q ≡ c → ArePublishes p (is_of es) (if c then (q, (number, e)) ∷ [] else [])
+    go : (c : Bool) → is_scheduled (net_of t) hosted q ≡ c → AreRequests p (is_of es) (if c then asks_publish q number e ∷ [] else [])
     go true h =
         let none : not (is_some (client_of t q)) ≡ true = (and_parts (is_hosted (net_of t) hosted q) (not (is_some (client_of t q))) h).1 in
         (λ same. absurd (true≢false (sym none ∙ (ap (λ k. not (is_some (client_of t k))) same ∙ ap not client))), tt)
@@ -186,11 +196,15 @@ scheduled_not t hosted p es client (step.Crash b) = tt
 scheduled_not t hosted p es client step.Sweep = tt
 scheduled_not t hosted p es client step.Show = tt
 scheduled_not t hosted p es client (step.Bytes frame) = tt
-scheduled_not t hosted p es client (step.Join s q) = tt
+scheduled_not t hosted p es client (step.Join s q) = go (is_hosted (net_of t) hosted q)
+  where
+    go : (c : Bool) → AreRequests p (is_of es) (if c then asks_join s q ∷ [] else [])
+    go true = (tt, tt)
+    go false = tt
 
-steps_not : (t : TopologyView) (hosted : List ℕ) (p : ℕ) (es : List Event) → IsSome (client_of t p) → (steps : List Line) → ArePublishes p (is_of es) (publishes_of (net_of t) hosted steps)
+steps_not : (t : TopologyView) (hosted : List ℕ) (p : ℕ) (es : List Event) → IsSome (client_of t p) → (steps : List Line) → AreRequests p (is_of es) (requests_of (net_of t) hosted steps)
 steps_not t hosted p es client [] = tt
-steps_not t hosted p es client (l ∷ ls) = all_append (λ (x : Publish). x.0 ≡ p → is_of es x.1.0 x.1.1) _ _ (scheduled_not t hosted p es client l.step) (steps_not t hosted p es client ls)
+steps_not t hosted p es client (l ∷ ls) = all_append (IsRequest p (is_of es)) _ _ (scheduled_not t hosted p es client l.step) (steps_not t hosted p es client ls)
 
 -- what a note submits at the publisher's host is of the list
 note_of : (t : TopologyView) (p : ℕ) (es : List Event) (b : ℕ) (bytes : List ℕ) (moment : ℕ) → IsSubmission t p es (datagram b bytes moment) → (n : Note) (x : Publish) → note_decoded bytes ≡ Ok n → submitted_in (net_of t) b n ≡ Some x → x.0 ≡ p → is_of es x.1.0 x.1.1
@@ -262,7 +276,7 @@ module _ (t : TopologyView) (hosted : List ℕ) (steps : List Line) (c : Course)
   end = after_acts t hosted c done
 
   -- what is logged, where what the plan publishes is so
-  grown : (P : ℕ → Event → Type 0) → p < length t.publishers → ArePublishes p P (publishes_of (net_of t) hosted steps) → AllByRecursion (IsNoted (net_of t) p P) c.came
+  grown : (P : ℕ → Event → Type 0) → p < length t.publishers → AreRequests p P (requests_of (net_of t) hosted steps) → AllByRecursion (IsNoted (net_of t) p P) c.came
       → Adds p P (log_found c p) (log_of end.world p) end.lines
   grown P below h noted =
       let g : Grows p P (world_before t c) end = acts_grow p P (net_of t) hosted done (world_before t c) (omega (arith, below, logs_before t c)) (first_are p P t hosted steps c done first h noted) in
@@ -271,7 +285,7 @@ module _ (t : TopologyView) (hosted : List ℕ) (steps : List Line) (c : Course)
   -- Of every publisher
   pub numbers_rise : p < length t.publishers → (new : List (ℕ × Event)) × Logs p (log_found c p) (log_of end.world p) end.lines new
   numbers_rise below =
-      let x = grown any_event below (all_pass (λ (x : Publish). x.0 ≡ p → any_event x.1.0 x.1.1) (λ x e. tt) (publishes_of (net_of t) hosted steps)) (all_pass (IsNoted (net_of t) p any_event) (any_noted (net_of t) p) c.came) in
+      let x = grown any_event below (all_pass (IsRequest p any_event) (any_request p) (requests_of (net_of t) hosted steps)) (all_pass (IsNoted (net_of t) p any_event) (any_noted (net_of t) p) c.came) in
       (x.new, x.logs)
 
   -- Of one with a client
@@ -291,4 +305,4 @@ module _ (t : TopologyView) (hosted : List ℕ) (steps : List Line) (c : Course)
       → (let l : Log = log_of end.world p in n ≤ suc l.last)
   next_answered n below small e =
       acts_say t hosted p n small any_event done (world_before t c) (omega (arith, below, logs_before t c))
-      (first_are p any_event t hosted steps c done first (all_pass (λ (x : Publish). x.0 ≡ p → any_event x.1.0 x.1.1) (λ x e. tt) (publishes_of (net_of t) hosted steps)) (all_pass (IsNoted (net_of t) p any_event) (any_noted (net_of t) p) c.came)) e
+      (first_are p any_event t hosted steps c done first (all_pass (IsRequest p any_event) (any_request p) (requests_of (net_of t) hosted steps)) (all_pass (IsNoted (net_of t) p any_event) (any_noted (net_of t) p) c.came)) e

@@ -18,7 +18,7 @@ use Rattle.gr_model.specs.NetOf.{net_of}
 use Rattle.gr_model.specs.Broker.{Log}
 use Rattle.gr_model.specs.World.{World, Transition, unchanged, in_turn}
 use Rattle.gr_model.specs.Opening.{over_logs, opening}
-use Rattle.gr_model.specs.Arrivals.{Arrival, datagram, quiet, Publish, publishes_of, left_after, publisher_of, submitted_in, comes, show_hosted, served_from, served_from_by, served, served_by}
+use Rattle.gr_model.specs.Arrivals.{Arrival, datagram, quiet, Publish, Request, requests_of, left_after, publisher_of, submitted_in, comes, show_hosted, served_from, served_from_by, served, served_by}
 use Rattle.gr_model.specs.Orders.{Order, fed, ordered, without_ordered, with_orders}
 use Rattle.gr_model_theorems.specs.Served.{joined}
 use Rattle.gr_node.specs.Plan.{Call, gets, Act, binds, starts, arrives, calls, answers, drops, settles, closes, shows, is_ours, ours, quiet_calls, submit_acts, note_acts, datagram_acts, acts_of, arrival_acts, acts_from, closing, run_acts, nodes, plan, act, told_by, heard_by, told_by_acts}
@@ -130,7 +130,7 @@ plain_datagram net b bytes = go (begins_note bytes)
     go true = plain_note net b (note_decoded bytes)
     go false = (tt, tt)
 
-plain_of : (net : Net) (hosted : List ℕ) (left : List Publish) (a : Arrival) → ArePlain (acts_of net hosted left a)
+plain_of : (net : Net) (hosted : List ℕ) (left : List Request) (a : Arrival) → ArePlain (acts_of net hosted left a)
 plain_of net hosted left (datagram b bytes moment) = go (is_among hosted b)
   where
     go : (c : Bool) → ArePlain (if c then datagram_acts net b bytes else [])
@@ -162,7 +162,7 @@ pub record Settled (net : Net) (hosted : List ℕ) (w : World) (os : List Order)
   pub told : told_by_acts net hosted w os acts ≡ ls
   pub heard : heard_by_acts net hosted w os acts ≡ next
 
-module _ (net : Net) (hosted : List ℕ) (left : List Publish) (a : Arrival) (w : World) (os : List Order) where
+module _ (net : Net) (hosted : List ℕ) (left : List Request) (a : Arrival) (w : World) (os : List Order) where
   abbrev first_acts : List Act
   first_acts = arrives a ∷ acts_of net hosted left a
 
@@ -223,7 +223,7 @@ shown_told net hosted closed w os none =
     shown_alone false = append-nil shown
 
 -- an arrival that is one of ours, and those after it
-told_ours : (net : Net) (hosted : List ℕ) (left : List Publish) (a : Arrival) (came : List Arrival) (w : World) (os : List Order) (more : List Act)
+told_ours : (net : Net) (hosted : List ℕ) (left : List Request) (a : Arrival) (came : List Arrival) (w : World) (os : List Order) (more : List Act)
     → is_ours hosted a ≡ true
     → ((u : World) (next : List Order) → ordered next ≡ [] → told_by_acts net hosted u next more ≡ joined (with_orders next (served_from net hosted u (left_after left a) came)))
     → told_by_acts net hosted w os (arrival_acts net hosted left a ++ more) ≡ joined (with_orders os (served_from net hosted w left (a ∷ came)))
@@ -238,7 +238,7 @@ told_ours net hosted left a came w os more e later =
     ∙ (ap (λ (xs : List Order). told_by_acts net hosted s.world xs more) here.heard ∙ later s.world next (rested_ready (fed os s.lines))))
 
 -- one that is not
-told_others : (net : Net) (hosted : List ℕ) (left : List Publish) (a : Arrival) (w : World) (os : List Order) (more : List Act)
+told_others : (net : Net) (hosted : List ℕ) (left : List Request) (a : Arrival) (w : World) (os : List Order) (more : List Act)
     → is_ours hosted a ≡ false → told_by_acts net hosted w os (arrival_acts net hosted left a ++ more) ≡ told_by_acts net hosted w os more
 told_others net hosted left a w os more e =
     let here = passes_over net hosted left a w os e (no_calls net hosted left a w e) in
@@ -247,7 +247,7 @@ told_others net hosted left a w os more e =
     (ap (λ (u : Transition). told_by_acts net hosted u.world (heard_by_acts net hosted w os (arrival_acts net hosted left a)) more) (passed_over net hosted left a w e)
     ∙ ap (λ (xs : List Order). told_by_acts net hosted w xs more) here.heard)
 
-pub told_came : (net : Net) (hosted : List ℕ) (left : List Publish) (came : List Arrival) (closed : Bool) (w : World) (os : List Order) → ordered os ≡ []
+pub told_came : (net : Net) (hosted : List ℕ) (left : List Request) (came : List Arrival) (closed : Bool) (w : World) (os : List Order) → ordered os ≡ []
     → told_by_acts net hosted w os (acts_from net hosted left came ++ (closing closed ++ shows ∷ [])) ≡ joined (with_orders os (served_from net hosted w left (ours hosted came)))
 unfolding acts_from served_from_by
 told_came net hosted left [] closed w os none = shown_told net hosted closed w os none
@@ -267,7 +267,7 @@ told_came net hosted left (a ∷ came) closed w os none =
     go more each (inr e) =
         told_others net hosted left a w os more e
         ∙ (each w os none
-        ∙ (ap (λ (ps : List Publish). joined (with_orders os (served_from net hosted w ps (ours hosted came)))) (none_taken hosted left a e)
+        ∙ (ap (λ (ps : List Request). joined (with_orders os (served_from net hosted w ps (ours hosted came)))) (none_taken hosted left a e)
         ∙ sym (ap (λ (xs : List Arrival). joined (with_orders os (served_from net hosted w left xs))) (ours_same hosted a came e))))
 
 -- The plan
@@ -298,7 +298,7 @@ unfolding plan served_by with_orders
 plan_told t hosted steps came closed logs os =
     let net : Net = net_of t in
     let ks : List ℕ = nodes t hosted in
-    let left : List Publish = publishes_of net hosted steps in
+    let left : List Request = requests_of net hosted steps in
     let o : Transition = opening net hosted logs in
     let next : List Order = fed os o.lines in
     let tail : List Act = acts_from net hosted left came ++ (closing closed ++ shows ∷ []) in

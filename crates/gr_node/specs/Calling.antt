@@ -26,6 +26,7 @@ Follows (Err (refused.Damaged p at)) result = ⊥
 abbrev pub line_of_drop : ℕ → Dropped → Report
 line_of_drop b (dropped.NotFrame fault) = line.DroppedNotFrame b (fault_number fault.kind) fault.at
 line_of_drop b (dropped.Stray head) = line.DroppedStray b head.from head.to head.publisher
+line_of_drop b (dropped.Split at kept came) = line.DroppedSplit b at kept came
 line_of_drop b (dropped.Clash clash) = line.DroppedClash b clash.tick clash.kept clash.came
 
 -- what is told of a datagram: what the broker tells where it is taken, and its one line where it is dropped

@@ -11,14 +11,14 @@ use Rattle.gr_model.specs.Net.{keeps_horizon, numbers}
 use Rattle.gr_model.specs.NetOf.{net_of}
 use Rattle.gr_model.specs.Broker.{Outcome as MachineOutcome, Log, max_tick}
 use Rattle.gr_model.specs.World.{sent_lines, kept_events}
-use Rattle.gr_model.specs.Arrivals.{Arrival, fault_number, is_hosted}
+use Rattle.gr_model.specs.Arrivals.{Arrival, fault_number, is_hosted, split_line}
 use Rattle.gr_model.specs.Orders.{fed, ordered, without_ordered}
 use Rattle.gr_pubend.specs.Log.{log_of}
 use Rattle.gr_broker.specs.Seen.{BrokerView, view_in}
-use Rattle.gr_broker.specs.Hosted.{publish_at, after_publish, wake_at, after_wake}
-use Rattle.gr_broker.specs.Receipt.{Receipt, no_frame, stray, clash, taken, receipt, after_receipt}
+use Rattle.gr_broker.specs.Hosted.{publish_at, after_publish, join_at, after_join, wake_at, after_wake}
+use Rattle.gr_broker.specs.Receipt.{Receipt, no_frame, stray, split, clash, taken, receipt, after_receipt}
 use Rattle.gr_node.specs.Seen.{NodeView, broker_in, records_in}
-use Rattle.gr_node.specs.Plan.{Call, gets, publishes, wakes, Act, binds, starts, arrives, calls, answers, drops}
+use Rattle.gr_node.specs.Plan.{Call, gets, publishes, joins, wakes, Act, binds, starts, arrives, calls, answers, drops}
 use Rattle.gr_node.specs.Plan.{settles, closes, shows, is_ours, moment_of, entry_of, offers_of, reply_entry}
 
 pub record Done : Type 0 where
@@ -48,6 +48,7 @@ taken_up n b x lines frames = record {
 abbrev pub receipt_lines : ℕ → Receipt → List Report
 receipt_lines b (no_frame fault) = line.DroppedNotFrame b (fault_number fault.kind) fault.at ∷ []
 receipt_lines b (stray head) = line.DroppedStray b head.from head.to head.publisher ∷ []
+receipt_lines b (split x) = split_line b x ∷ []
 receipt_lines b (clash tick kept came) = line.DroppedClash b tick kept came ∷ []
 receipt_lines b (taken o) = o.lines
 
@@ -59,6 +60,7 @@ receipt_frames _ = []
 abbrev pub broker_of : TopologyView → Call → ℕ
 broker_of t (gets b r) = b
 broker_of t (publishes x) = host_of t x.0
+broker_of t (joins s p) = host_of t p
 broker_of t (wakes b p) = b
 
 -- a call of a broker that is hosted: the broker's own
@@ -69,6 +71,8 @@ done_at t n b x (gets c r) =
 done_at t n b x (publishes y) =
     let o : MachineOutcome = publish_at t x y.0 n.now y.1.0 y.1.1 in
     taken_up n b (after_publish t x y.0 n.now y.1.0 y.1.1) o.lines o.frames
+done_at t n b x (joins s p) =
+    let o : MachineOutcome = join_at t x p s n.now in taken_up n b (after_join t x p s n.now) o.lines o.frames
 done_at t n b x (wakes c p) =
     let o : MachineOutcome = wake_at t x p n.now in taken_up n b (after_wake t x p n.now) o.lines o.frames
 

@@ -8,7 +8,7 @@ use Rattle.gr_publog.specs.Calls.{GoesOn}
 use Rattle.gr_sched.specs.declared.step.Line.{Line}
 use Rattle.gr_topo.specs.Topology.{TopologyView}
 use Rattle.gr_model.specs.NetOf.{net_of}
-use Rattle.gr_model.specs.Arrivals.{Arrival, publishes_of}
+use Rattle.gr_model.specs.Arrivals.{Arrival, requests_of}
 use Rattle.gr_node.specs.Seen.{NodeView}
 use Rattle.gr_node.specs.Of.{IsSet, AllStand}
 use Rattle.gr_node.specs.Plan.{acts_from}
@@ -40,7 +40,7 @@ pub record AllKeep (late : List ℕ) (before after : ℕ → Lane) : Type 0 wher
 abbrev pub node_upto : TopologyView → List ℕ → List Line → NodeView → List Arrival → ℕ → NodeView
 node_upto t hosted steps n came k =
     let d : Done =
-    all_done t hosted n (acts_from (net_of t) hosted (publishes_of (net_of t) hosted steps) (take k came)) in
+    all_done t hosted n (acts_from (net_of t) hosted (requests_of (net_of t) hosted steps) (take k came)) in
     d.node
 
 -- After so many arrivals and their acts all logs stood, and since then no lane has lost anything

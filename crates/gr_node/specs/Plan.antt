@@ -23,17 +23,18 @@ use Rattle.gr_model.specs.declared.report.Report.TheVariants as line
 use Rattle.gr_model.specs.Net.{Net, numbers}
 use Rattle.gr_model.specs.NetOf.{net_of}
 use Rattle.gr_model.specs.Broker.{Log}
-use Rattle.gr_model.specs.World.{World, Transition, unchanged, in_turn, publish_now, wake_for, sent_since}
+use Rattle.gr_model.specs.World.{World, Transition, unchanged, in_turn, publish_now, join_now, wake_for, sent_since}
 use Rattle.gr_model.specs.World.{log_of}
 use Rattle.gr_model.specs.Opening.{opened_for, publishers_at}
-use Rattle.gr_model.specs.Arrivals.{Arrival, datagram, quiet, Publish, publishes_of, left_after, at_moment, receives}
-use Rattle.gr_model.specs.Arrivals.{publisher_of, submitted_in, show_hosted}
+use Rattle.gr_model.specs.Arrivals.{Arrival, datagram, quiet, Publish, Request, asks_publish, asks_join, requests_of}
+use Rattle.gr_model.specs.Arrivals.{left_after, at_moment, receives, publisher_of, submitted_in, show_hosted}
 use Rattle.gr_model.specs.Orders.{Order, fed, ordered, without_ordered}
 
--- a call of a broker: it gets a datagram, or publishes, or is woken for a publisher
+-- a call of a broker: it gets a datagram, or publishes, or a subscriber joins a publisher, or it is woken for one
 pub data Call : Type 0 where
   gets : ℕ → Result Frame FrameFault → Call
   publishes : Publish → Call
+  joins : ℕ → ℕ → Call  -- the subscriber, the publisher
   wakes : ℕ → ℕ → Call
 
 -- A run is made of acts: a node's address is bound, a hosted broker starts, something arrives, a broker is called, what
@@ -64,18 +65,23 @@ moment_of (quiet moment) = moment
 
 -- The calls of an arrival
 
--- the first publish that is left
-abbrev pub publish_calls : List Publish → List Call
-publish_calls [] = []
-publish_calls (x ∷ left) = publishes x ∷ []
+-- a request as a call
+abbrev pub call_of : Request → Call
+call_of (asks_publish p number e) = publishes (p, (number, e))
+call_of (asks_join s p) = joins s p
+
+-- that of the first request that is left
+abbrev pub request_calls : List Request → List Call
+request_calls [] = []
+request_calls (x ∷ left) = call_of x ∷ []
 
 -- a broker is woken for each publisher
 abbrev pub wake_calls : ℕ → ℕ → List Call
 wake_calls publishers b = map (wakes b) (numbers publishers)
 
--- at a quiet moment a publish, where one is left, and then each hosted broker is woken for each publisher
-abbrev pub quiet_calls : Net → List ℕ → List Publish → List Call
-quiet_calls net hosted left = publish_calls left ++ flat_map (wake_calls net.publishers) hosted
+-- at a quiet moment a request, where one is left, and then each hosted broker is woken for each publisher
+abbrev pub quiet_calls : Net → List ℕ → List Request → List Call
+quiet_calls net hosted left = request_calls left ++ flat_map (wake_calls net.publishers) hosted
 
 -- The acts of an arrival
 
@@ -96,7 +102,7 @@ datagram_acts net b bytes =
       | false ↦ calls (gets b (frame_decoded bytes)) ∷ []
     ]
 
-abbrev pub acts_of : Net → List ℕ → List Publish → Arrival → List Act
+abbrev pub acts_of : Net → List ℕ → List Request → Arrival → List Act
 acts_of net hosted left (datagram b bytes moment) = if is_among hosted b then datagram_acts net b bytes else []
 acts_of net hosted left (quiet moment) = map calls (quiet_calls net hosted left)
 
@@ -105,14 +111,14 @@ abbrev pub settling : List ℕ → Arrival → List Act
 settling hosted a = if is_ours hosted a then settles ∷ [] else []
 
 -- all that an arrival leads to
-abbrev pub led_to : Net → List ℕ → List Publish → Arrival → List Act
+abbrev pub led_to : Net → List ℕ → List Request → Arrival → List Act
 led_to net hosted left a = acts_of net hosted left a ++ settling hosted a
 
 -- an arrival, and its acts
-abbrev pub arrival_acts : Net → List ℕ → List Publish → Arrival → List Act
+abbrev pub arrival_acts : Net → List ℕ → List Request → Arrival → List Act
 arrival_acts net hosted left a = arrives a ∷ led_to net hosted left a
 
-unfoldable pub acts_from : Net → List ℕ → List Publish → List Arrival → List Act
+unfoldable pub acts_from : Net → List ℕ → List Request → List Arrival → List Act
 acts_from net hosted left [] = []
 acts_from net hosted left (a ∷ came) = arrival_acts net hosted left a ++ acts_from net hosted (left_after left a) came
 
@@ -124,7 +130,7 @@ closing closed = if closed then closes ∷ [] else []
 
 -- what is done of what came
 abbrev pub turn_acts : Net → List ℕ → List Line → List Arrival → Bool → List Act
-turn_acts net hosted steps came closed = acts_from net hosted (publishes_of net hosted steps) came ++ closing closed
+turn_acts net hosted steps came closed = acts_from net hosted (requests_of net hosted steps) came ++ closing closed
 
 -- before the first turn it is told what is ready in one order after the starts
 abbrev pub run_acts : Net → List ℕ → List Line → List Arrival → Bool → List Act
@@ -151,6 +157,7 @@ plan t hosted steps came closed =
 abbrev pub called : Net → World → Call → Transition
 called net w (gets b r) = receives net w b r
 called net w (publishes x) = publish_now net w x.0 x.1.0 x.1.1
+called net w (joins s p) = join_now net w s p
 called net w (wakes b p) = wake_for net w b p
 
 -- what comes to a broker that is not hosted is passed over

@@ -20,7 +20,7 @@ use Rattle.gr_model.specs.declared.report.Report.{Report}
 use Rattle.gr_model.specs.NetOf.{net_of}
 use Rattle.gr_model.specs.World.{World, Transition, in_turn, log_of as machine_log_of}
 use Rattle.gr_model.specs.Opening.{over_logs}
-use Rattle.gr_model.specs.Arrivals.{Arrival, is_hosted, served, publishes_of}
+use Rattle.gr_model.specs.Arrivals.{Arrival, is_hosted, served, requests_of}
 use Rattle.gr_model.specs.Orders.{orders_of, with_orders}
 use Rattle.gr_model_theorems.specs.Served.{joined, IsOfBytes}
 use Rattle.gr_model_theorems.specs.Lanes.{AllFollow, whole_logs}
@@ -112,7 +112,7 @@ pub record Prints {T : Type 0} (t : TopologyView) (hosted : List ℕ) (steps : L
 abbrev pub acts_upto : TopologyView → List ℕ → List Line → Course → ℕ → List Act
 acts_upto t hosted steps c k = map binds (nodes t hosted)
     ++ (map starts hosted
-    ++ (settles ∷ acts_from (net_of t) hosted (publishes_of (net_of t) hosted steps) (take k c.came)))
+    ++ (settles ∷ acts_from (net_of t) hosted (requests_of (net_of t) hosted steps) (take k c.came)))
 
 abbrev pub world_upto : TopologyView → List ℕ → List Line → Course → ℕ → World
 world_upto t hosted steps c k =

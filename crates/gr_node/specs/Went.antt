@@ -19,7 +19,7 @@ use Rattle.gr_model_calls.specs.Edges.{GoesOverEdge}
 use Rattle.gr_broker_relay.specs.declared.outcome.Outcome.{Outcome}
 use Rattle.gr_report.specs.Named.{AllNamed}
 use Rattle.gr_node.specs.Seen.{NodeView, text_of}
-use Rattle.gr_node.specs.Plan.{Call, publishes, wakes, Act, starts, calls, offers_of, bound_entry}
+use Rattle.gr_node.specs.Plan.{Call, publishes, joins, wakes, Act, starts, calls, offers_of, bound_entry}
 use Rattle.gr_node.specs.Done.{call_done, all_done}
 
 -- What stands outside: what the sink took, what the page holds, and the journal of the post
@@ -46,6 +46,7 @@ fault_entries _ = []
 abbrev pub uses_disk : Act → Bool
 uses_disk (starts b) = true
 uses_disk (calls (publishes x)) = true
+uses_disk (calls (joins s p)) = true
 uses_disk (calls (wakes b p)) = true
 uses_disk _ = false
 

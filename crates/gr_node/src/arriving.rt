@@ -6,7 +6,7 @@ ghost use Rattle.gr_out.specs.Journal.{next_entries, Fits, CountsFailed};
 ghost use Rattle.gr_out.specs.Lane.{Lane};
 ghost use Rattle.gr_model.specs.Broker.{max_tick};
 ghost use Rattle.gr_model.specs.NetOf.{net_of};
-ghost use Rattle.gr_model.specs.Arrivals.{datagram, quiet, Publish, publishes_of};
+ghost use Rattle.gr_model.specs.Arrivals.{datagram, quiet, Request, requests_of};
 ghost use Rattle.gr_model_theorems.specs.Served.{IsOfBytes};
 ghost use Rattle.gr_node.specs.Seen.{seen};
 ghost use Rattle.gr_node.specs.Lasting.{AllKeep};
@@ -49,7 +49,7 @@ fn datagram_comes<D: Disk, P: Post, K: Sink>(
 ) -> Result<(), RunFault>
     requires serving { IsServing site.now.topo.now site.now.hosted.now D.tells (D.lane_of disk.old) (seen node.old) }
     ensures bytes { IsOfBytes (datagram b bytes.now moment) }
-    ensures went { (left : List Publish) → Went site.now.topo.now site.now.hosted.now P.tells
+    ensures went { (left : List Request) → Went site.now.topo.now site.now.hosted.now P.tells
         (led_to (net_of site.now.topo.now) site.now.hosted.now left (datagram b bytes.now moment))
         (at_arrival site.now.hosted.now (seen node.old) (datagram b bytes.now moment)) (seen node.new)
         (outside (K.taken sink.old) page.old.held (P.journal post.old))
@@ -88,7 +88,7 @@ fn quiet_comes<D: Disk, P: Post, K: Sink>(
     requires first { IsFirst (net_of site.now.topo.now) site.now.hosted.now (drop next steps.now) }
     ensures went { Went site.now.topo.now site.now.hosted.now P.tells
         (map calls (quiet_calls (net_of site.now.topo.now) site.now.hosted.now
-        (publishes_of (net_of site.now.topo.now) site.now.hosted.now (drop next steps.now))) ++ settles ∷ [])
+        (requests_of (net_of site.now.topo.now) site.now.hosted.now (drop next steps.now))) ++ settles ∷ [])
         (at_arrival site.now.hosted.now (seen node.old) (quiet moment)) (seen node.new)
         (outside (K.taken sink.old) page.old.held (P.journal post.old))
         (outside (K.taken sink.new) page.new.held (P.journal post.new)) result }
@@ -121,7 +121,7 @@ fn await_next<P: Paced>(
     post.next(piece)
 }
 
-/// Takes one arrival, with all that it causes; the page is flushed then. A quiet moment comes sooner where a publish is
+/// Takes one arrival, with all that it causes; the page is flushed then. A quiet moment comes sooner where a request is
 /// left. False where nothing comes any more. The piece has room for every datagram.
 pub(crate) fn turn<D: Disk, P: Paced, K: Sink>(
     site: &Site<'_>,

@@ -1,16 +1,16 @@
 //! One call of a hosted broker. It is taken out of its place, called, and put back.
 
-ghost use Rattle.std.specs.Prelude.{◌≡◌, ◌≢◌, ℕ, ◌<◌, [], ◌∷◌, get_or, set, length, Some, None, Err, IsSome, IfOk};
-ghost use Rattle.std.specs.Prelude.{IfErr, OnOk};
+ghost use Rattle.std.specs.Prelude.{◌≡◌, ◌≢◌, ℕ, ◌<◌, true, [], ◌∷◌, get_or, set, length, Some, None, Err, IsSome};
+ghost use Rattle.std.specs.Prelude.{IfOk, IfErr, OnOk};
 ghost use Rattle.gr_frame.specs.Decode.{frame_decoded};
 ghost use Rattle.gr_out.specs.Lane.{Lane};
 ghost use Rattle.gr_publog.specs.declared.record.LogFault.TheVariants as log_fault;
-ghost use Rattle.gr_topo.specs.Topology.{host_of};
+ghost use Rattle.gr_topo.specs.Topology.{host_of, late_of};
 ghost use Rattle.gr_broker.specs.Told.{log_answer};
 ghost use Rattle.gr_node.specs.Seen.{seen, broker_in};
 ghost use Rattle.gr_node.specs.Of.{NodeFits, AllStand, OthersStay};
 ghost use Rattle.gr_node.specs.Lasting.{AllKeep};
-ghost use Rattle.gr_node.specs.Plan.{gets, publishes, wakes};
+ghost use Rattle.gr_node.specs.Plan.{gets, publishes, joins, wakes};
 ghost use Rattle.gr_node.specs.Went.{Makes, DiskMoves, IsCallFault};
 ghost use Rattle.gr_node.specs.Calling.{Follows, FollowsReceipt, line_of_drop};
 
@@ -77,6 +77,12 @@ fn line_of_drop(b: u16, dropped: Dropped) -> Report
             from: head.from,
             to: head.to,
             publisher: head.publisher,
+        },
+        Dropped::Split { at, kept, came } => Report::DroppedSplit {
+            broker: b,
+            at,
+            kept,
+            came,
         },
         Dropped::Clash { clash } => Report::DroppedClash {
             broker: b,
@@ -173,6 +179,39 @@ impl Node {
         let host = topo.host(p);
         let mut broker = take_out(&mut self.brokers, host);
         let answer = broker.publish(topo, disk, p, number, event, now);
+        put_back(&mut self.brokers, host, broker);
+        answered(answer)
+    }
+
+    /// Joins a late subscriber to a publisher, at the publisher's host, which is hosted.
+    pub(crate) fn join_at<D: Disk>(
+        &mut self,
+        topo: &Topology,
+        disk: &mut D,
+        p: u16,
+        s: u16,
+    ) -> Result<Outcome, RunFault>
+        requires fits { NodeFits topo.now (seen self.old) }
+        requires publisher { p < length topo.now.publishers }
+        requires late { (s < length topo.now.subscribers) × (late_of topo.now s ≡ true) }
+        requires here { IsSome (broker_in (seen self.old) (host_of topo.now p)) }
+        requires stands { D.tells → AllStand (D.lane_of disk.old) (seen self.old) }
+        ensures makes { IfOk result (Makes topo.now (seen self.old) (joins s p) (seen self.new)) }
+        ensures fits { OnOk result (NodeFits topo.now (seen self.new)) }
+        ensures cause { IfErr result IsCallFault }
+        ensures disk { DiskMoves (D.faults disk.old) (D.stops disk.old) (D.faults disk.new) (D.stops disk.new) result }
+        ensures stands { D.tells → OnOk result (AllStand (D.lane_of disk.new) (seen self.new)) }
+        ensures others { D.tells
+            → OthersStay topo.now (host_of topo.now p ∷ []) (D.lane_of disk.old) (D.lane_of disk.new) }
+        ensures keeps { let late = topo.now.late in D.tells → (l : ℕ → Lane)
+            → AllKeep late l (D.lane_of disk.old) → AllKeep late l (D.lane_of disk.new) }
+    {
+        // Proof only: what is sent goes over edges, and each line has its names.
+        every_topology_is_a_tree(topo);
+        let now = self.now;
+        let host = topo.host(p);
+        let mut broker = take_out(&mut self.brokers, host);
+        let answer = broker.join(topo, disk, p, s, now);
         put_back(&mut self.brokers, host, broker);
         answered(answer)
     }

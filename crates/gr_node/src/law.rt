@@ -17,7 +17,7 @@ ghost use Rattle.gr_model.specs.NetOf.{net_of};
 ghost use Rattle.gr_model.specs.Broker.{Log};
 ghost use Rattle.gr_model.specs.World.{World, Transition, in_turn, publish_now, log_of};
 ghost use Rattle.gr_model.specs.Opening.{over_logs, opening};
-ghost use Rattle.gr_model.specs.Arrivals.{Arrival, Publish, publishes_of, served, arrived};
+ghost use Rattle.gr_model.specs.Arrivals.{Arrival, Publish, requests_of, served, arrived};
 ghost use Rattle.gr_scenario.specs.Steps.{AreStepsOf};
 ghost use Rattle.gr_model_theorems.specs.Served.{joined, IsOfBytes};
 ghost use Rattle.gr_model_theorems.specs.Lanes.{AllFollow, HoldsServedLanes, found_logs};
@@ -36,9 +36,10 @@ use gr_report::steps_fit_the_theorems;
 use gr_topo::Topology;
 
 /// The headline of a run that hosts all brokers, over old logs too: where the journal is honest, every arrival does
-/// what its steps of a schedule do, and of these the whole headline holds. Of the subscribers that get one list over
-/// all publishers, whichever they are, each is told in it exactly what it is to have, behind the opening and behind each
-/// arrival; and of two that want the same one list begins with the other.
+/// what its steps of a schedule do, and of these the whole headline holds. A late subscriber wants what is past its
+/// join, as the log has it. Of the subscribers that get one list over all publishers, whichever they are, each is told
+/// in it exactly what it is to have, behind the opening and behind each arrival; and of two that want the same one list
+/// begins with the other.
 ///
 /// And of any run: the plan's acts, one after another, tell what the machine serves of what came at the hosted brokers,
 /// and leave the world after it.
@@ -64,7 +65,7 @@ pub fn an_honest_journal_meets_the_headline(topo: &Topology)
         let end : Transition =
         in_turn (act net hosted) (plan topo.now hosted steps came closed) (over_logs net logs) in
         (end.lines ≡ joined (served net hosted logs steps (ours hosted came)))
-        × (end.world ≡ arrived net hosted (opening net hosted logs).world (publishes_of net hosted steps)
+        × (end.world ≡ arrived net hosted (opening net hosted logs).world (requests_of net hosted steps)
         (ours hosted came)) }
 {
     every_topology_is_a_tree(topo);

@@ -16,7 +16,7 @@ ghost use Rattle.gr_node.specs.Went.{outside, Went, IsExact};
 use crate::arriving::turn;
 use crate::node::{Node, Site};
 use crate::ordering::settle;
-use crate::schedule::next_publish;
+use crate::schedule::next_request;
 use gr_out::{Disk, Memory, Page, RunFault, Sink};
 use gr_pace::Paced;
 use gr_sched::Line;
@@ -68,7 +68,7 @@ fn run_turns<D: Disk, P: Paced, K: Sink>(
         Ok(piece) => piece,
         Err(_) => return Err(RunFault::Memory),
     };
-    let mut next = next_publish(site, steps, 0);
+    let mut next = next_request(site, steps, 0);
     'turns: for _ in 0..turns {
         match turn(
             site, node, steps, &mut next, &mut piece, disk, post, page, sink,

@@ -208,10 +208,10 @@ fn serve_bound<D: Disk, P: Paced, K: Sink>(
 /// In order: each broker is bound to its address, and then the client of each publisher that has one and whose broker
 /// is hosted; the hosted brokers start, in rising order, over the logs that their lanes hold; at most so many arrivals
 /// are taken, as `turns` says, each with all that it causes, until nothing comes any more; and then all is shown. At a
-/// quiet moment the next publish of the steps whose publisher is hosted and has no client is made, and each hosted
-/// broker is woken for each publisher. A datagram that begins as a note is one: what a client submits to its host is
-/// published, and once it is logged the host offers the client which number it waits for; any other note is dropped.
-/// What an arrival has caused is written before the next is waited for.
+/// quiet moment the next request of the steps is carried out, a publish of a hosted publisher that has no client or a
+/// join to a hosted publisher, and each hosted broker is woken for each publisher. A datagram that begins as a note is
+/// one: what a client submits to its host is published, and once it is logged the host offers the client which number
+/// it waits for; any other note is dropped. What an arrival has caused is written before the next is waited for.
 ///
 /// `Post` only where a binding failed, or the wait for an arrival; `Damaged` where the lane of a publisher at a hosted
 /// broker holds no log: the first such publisher, and the place of the first fault; `Disk` only where the disk failed

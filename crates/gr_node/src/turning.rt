@@ -1,16 +1,16 @@
 //! What is done of one arrival: the calls of brokers that it asks for, with their lines and offers.
 
-ghost use Rattle.std.specs.Prelude.{◌≡◌, ℕ, ◌<◌, [], ◌∷◌, length, map, drop, flat_map, IsSome, IfErr, OnOk};
+ghost use Rattle.std.specs.Prelude.{◌≡◌, ℕ, ◌<◌, true, [], ◌∷◌, length, map, drop, flat_map, IsSome, IfErr, OnOk};
 ghost use Rattle.gr_frame.specs.Decode.{frame_decoded};
 ghost use Rattle.gr_out.specs.Lane.{Lane};
-ghost use Rattle.gr_topo.specs.Topology.{host_of};
+ghost use Rattle.gr_topo.specs.Topology.{host_of, late_of};
 ghost use Rattle.gr_scenario.specs.Steps.{AreStepsOf};
 ghost use Rattle.gr_model.specs.NetOf.{net_of};
-ghost use Rattle.gr_model.specs.Arrivals.{publishes_of};
+ghost use Rattle.gr_model.specs.Arrivals.{requests_of};
 ghost use Rattle.gr_node.specs.Seen.{seen, broker_in};
 ghost use Rattle.gr_node.specs.Of.{AreHosted, IsSet, AllStand};
 ghost use Rattle.gr_node.specs.Keeps.{IsServing, IsAsked, TellKeeps, TurnKeeps, LeavesEmpty};
-ghost use Rattle.gr_node.specs.Plan.{gets, publishes, wakes, calls, publish_calls, wake_calls, quiet_calls};
+ghost use Rattle.gr_node.specs.Plan.{gets, publishes, joins, wakes, calls, request_calls, wake_calls, quiet_calls};
 ghost use Rattle.gr_node.specs.Went.{outside, Went, IsTurnFault};
 ghost use Rattle.gr_node.specs.Turns.{IsFirst};
 
@@ -80,6 +80,45 @@ pub(crate) fn publish<D: Disk, P: Post, K: Sink>(
     ensures cause { IfErr result IsTurnFault }
 {
     match node.publish_at(site.topo, disk, p, number, event) {
+        Ok(told) => tell(
+            site.alloc,
+            site.topo,
+            told,
+            &mut node.offers,
+            &mut node.orders,
+            post,
+            page,
+            sink,
+        ),
+        Err(fault) => Err(fault),
+    }
+}
+
+/// A join of a late subscriber at its publisher's host, which is hosted.
+fn join<D: Disk, P: Post, K: Sink>(
+    site: &Site<'_>,
+    node: &mut Node,
+    s: u16,
+    p: u16,
+    disk: &mut D,
+    post: &mut P,
+    page: &mut Page,
+    sink: &mut K,
+) -> Result<(), RunFault>
+    requires serving { IsServing site.now.topo.now site.now.hosted.now D.tells (D.lane_of disk.old) (seen node.old) }
+    requires publisher { p < length site.now.topo.now.publishers }
+    requires late { (s < length site.now.topo.now.subscribers) × (late_of site.now.topo.now s ≡ true) }
+    requires here { IsSome (broker_in (seen node.old) (host_of site.now.topo.now p)) }
+    ensures went { Went site.now.topo.now site.now.hosted.now P.tells (calls (joins s p) ∷ [])
+        (seen node.old) (seen node.new) (outside (K.taken sink.old) page.old.held (P.journal post.old))
+        (outside (K.taken sink.new) page.new.held (P.journal post.new)) result }
+    ensures serving { OnOk result
+        (IsServing site.now.topo.now site.now.hosted.now D.tells (D.lane_of disk.new) (seen node.new)) }
+    ensures keeps { TurnKeeps site.now.topo.now site.now.hosted.now D.tells D.lane_of D.faults D.stops disk.old disk.new
+        (K.faults sink.old) (K.faults sink.new) (P.faults post.old) (P.faults post.new) result }
+    ensures cause { IfErr result IsTurnFault }
+{
+    match node.join_at(site.topo, disk, p, s) {
         Ok(told) => tell(
             site.alloc,
             site.topo,
@@ -194,8 +233,8 @@ fn wake_hosted<D: Disk, P: Post, K: Sink>(
     Ok(())
 }
 
-/// The publish at the place `next` of the steps, where there is one.
-fn publish_next<D: Disk, P: Post, K: Sink>(
+/// The request at the place `next` of the steps, where there is one, is carried out.
+fn take_request<D: Disk, P: Post, K: Sink>(
     site: &Site<'_>,
     node: &mut Node,
     steps: &[Line],
@@ -208,8 +247,8 @@ fn publish_next<D: Disk, P: Post, K: Sink>(
     requires serving { IsServing site.now.topo.now site.now.hosted.now D.tells (D.lane_of disk.old) (seen node.old) }
     requires steps { AreStepsOf site.now.topo.now steps.now }
     requires first { IsFirst (net_of site.now.topo.now) site.now.hosted.now (drop next steps.now) }
-    ensures went { Went site.now.topo.now site.now.hosted.now P.tells (map calls (publish_calls
-        (publishes_of (net_of site.now.topo.now) site.now.hosted.now (drop next steps.now))))
+    ensures went { Went site.now.topo.now site.now.hosted.now P.tells (map calls (request_calls
+        (requests_of (net_of site.now.topo.now) site.now.hosted.now (drop next steps.now))))
         (seen node.old) (seen node.new) (outside (K.taken sink.old) page.old.held (P.journal post.old))
         (outside (K.taken sink.new) page.new.held (P.journal post.new)) result }
     ensures serving { OnOk result
@@ -230,13 +269,17 @@ fn publish_next<D: Disk, P: Post, K: Sink>(
         } => publish(
             site, node, *publisher, *number, event, disk, post, page, sink,
         ),
+        Step::Join {
+            subscriber,
+            publisher,
+        } => join(site, node, *subscriber, *publisher, disk, post, page, sink),
         _ => unreachable!(),
     }
 }
 
-/// The publish at the place `next` of the steps, where there is one. What it tells is written, since a wake may cut the
-/// event, and what is cut is never handed over again.
-fn publish_written<D: Disk, P: Post, K: Sink>(
+/// The request at the place `next` of the steps, where there is one, is carried out. What it tells is written, since a
+/// wake may cut its event, and what is cut is never handed over again.
+fn take_written<D: Disk, P: Post, K: Sink>(
     site: &Site<'_>,
     node: &mut Node,
     steps: &[Line],
@@ -249,8 +292,8 @@ fn publish_written<D: Disk, P: Post, K: Sink>(
     requires serving { IsServing site.now.topo.now site.now.hosted.now D.tells (D.lane_of disk.old) (seen node.old) }
     requires steps { AreStepsOf site.now.topo.now steps.now }
     requires first { IsFirst (net_of site.now.topo.now) site.now.hosted.now (drop next steps.now) }
-    ensures went { Went site.now.topo.now site.now.hosted.now P.tells (map calls (publish_calls
-        (publishes_of (net_of site.now.topo.now) site.now.hosted.now (drop next steps.now))))
+    ensures went { Went site.now.topo.now site.now.hosted.now P.tells (map calls (request_calls
+        (requests_of (net_of site.now.topo.now) site.now.hosted.now (drop next steps.now))))
         (seen node.old) (seen node.new) (outside (K.taken sink.old) page.old.held (P.journal post.old))
         (outside (K.taken sink.new) page.new.held (P.journal post.new)) result }
     ensures emptied { LeavesEmpty page.new.held result }
@@ -260,13 +303,13 @@ fn publish_written<D: Disk, P: Post, K: Sink>(
         (K.faults sink.old) (K.faults sink.new) (P.faults post.old) (P.faults post.new) result }
     ensures cause { IfErr result IsTurnFault }
 {
-    match publish_next(site, node, steps, next, disk, post, page, sink) {
+    match take_request(site, node, steps, next, disk, post, page, sink) {
         Ok(()) => page.flush(sink),
         Err(fault) => Err(fault),
     }
 }
 
-/// A quiet moment: the publish at the place `next` of the steps, where there is one, whose lines are written, and then
+/// A quiet moment: the request at the place `next` of the steps, where there is one, whose lines are written, and then
 /// each hosted broker is woken.
 pub(crate) fn be_quiet<D: Disk, P: Post, K: Sink>(
     site: &Site<'_>,
@@ -283,7 +326,7 @@ pub(crate) fn be_quiet<D: Disk, P: Post, K: Sink>(
     requires first { IsFirst (net_of site.now.topo.now) site.now.hosted.now (drop next steps.now) }
     ensures went { Went site.now.topo.now site.now.hosted.now P.tells
         (map calls (quiet_calls (net_of site.now.topo.now) site.now.hosted.now
-        (publishes_of (net_of site.now.topo.now) site.now.hosted.now (drop next steps.now))))
+        (requests_of (net_of site.now.topo.now) site.now.hosted.now (drop next steps.now))))
         (seen node.old) (seen node.new) (outside (K.taken sink.old) page.old.held (P.journal post.old))
         (outside (K.taken sink.new) page.new.held (P.journal post.new)) result }
     ensures serving { OnOk result
@@ -292,7 +335,7 @@ pub(crate) fn be_quiet<D: Disk, P: Post, K: Sink>(
         (K.faults sink.old) (K.faults sink.new) (P.faults post.old) (P.faults post.new) result }
     ensures cause { IfErr result IsTurnFault }
 {
-    match publish_written(site, node, steps, next, disk, post, page, sink) {
+    match take_written(site, node, steps, next, disk, post, page, sink) {
         Ok(()) => wake_hosted(site, node, disk, post, page, sink),
         Err(fault) => Err(fault),
     }

@@ -3,7 +3,7 @@ use Rattle.gr_out.specs.Journal.{next_entries}
 use Rattle.gr_out.specs.declared.post.Arrival.{Arrival as PostArrival}
 use Rattle.gr_out.specs.declared.post.PostFault.{PostFault}
 use Rattle.gr_model.specs.NetOf.{net_of}
-use Rattle.gr_model.specs.Arrivals.{datagram, quiet, publishes_of}
+use Rattle.gr_model.specs.Arrivals.{datagram, quiet, requests_of}
 use Rattle.gr_node.specs.Seen.{seen}
 use Rattle.gr_node.proofs.OneTurn.{turned_on, turned_cut, turned_shut, turned_failed, turned_refused}
 use Rattle.gr_node.proofs.arriving.turn.Goals as goal
@@ -14,7 +14,7 @@ returns-in-Ok-datagram_comes-clause-turned g c =
     let hosted = c.args.site.now.hosted.now in
     turned_on t hosted g.P.Post.tells c.args.steps.now c.args.next.now c.args.next.now (datagram c.in-Datagram.at (take c.in-Datagram.len c.await_next.new.piece) c.in-Datagram.moment) (seen c.args.node.now) (seen c.datagram_comes.new.node) (g.K.Sink.taken c.args.sink.now) c.args.page.now.held (g.P.Post.journal c.args.post.now) (g.P.Post.journal c.await_next.new.post) _ c.in-Ok-datagram_comes.field-0
     c.in-Ok-datagram_comes.ensures.bytes (λ tells. c.in-Ok.ensures.journal tells ∙ ap (λ (a : PostArrival). g.P.Post.journal c.args.post.now ++ next_entries c.await_next.new.piece (Ok a)) c.in-Datagram.is)
-    (c.in-Ok-datagram_comes.ensures.went (publishes_of (net_of t) hosted (drop c.args.next.now c.args.steps.now))) refl
+    (c.in-Ok-datagram_comes.ensures.went (requests_of (net_of t) hosted (drop c.args.next.now c.args.steps.now))) refl
 
 pub returns-in-Err-datagram_comes-clause-turned : goal.returns-in-Err-datagram_comes-clause-turned
 returns-in-Err-datagram_comes-clause-turned g c =
@@ -22,7 +22,7 @@ returns-in-Err-datagram_comes-clause-turned g c =
     let hosted = c.args.site.now.hosted.now in
     turned_cut t hosted g.P.Post.tells c.args.steps.now c.args.next.now c.args.next.now (datagram c.in-Datagram.at (take c.in-Datagram.len c.await_next.new.piece) c.in-Datagram.moment) (seen c.args.node.now) (seen c.datagram_comes.new.node) (g.K.Sink.taken c.args.sink.now) c.args.page.now.held (g.P.Post.journal c.args.post.now) (g.P.Post.journal c.await_next.new.post) _ c.in-Err-datagram_comes.fault
     c.in-Err-datagram_comes.ensures.bytes (λ tells. c.in-Ok.ensures.journal tells ∙ ap (λ (a : PostArrival). g.P.Post.journal c.args.post.now ++ next_entries c.await_next.new.piece (Ok a)) c.in-Datagram.is)
-    (c.in-Err-datagram_comes.ensures.went (publishes_of (net_of t) hosted (drop c.args.next.now c.args.steps.now)))
+    (c.in-Err-datagram_comes.ensures.went (requests_of (net_of t) hosted (drop c.args.next.now c.args.steps.now)))
 
 pub returns-in-Ok-quiet_comes-clause-turned : goal.returns-in-Ok-quiet_comes-clause-turned
 returns-in-Ok-quiet_comes-clause-turned g c =

@@ -13,11 +13,11 @@ returns-in-Err-clause-ran g c = ran_none c.args.site.now.topo.now c.args.site.no
 
 pub turns-init : goal.turns-init
 turns-init g c = record {
-  goes = none_came c.args.site.now.topo.now c.args.site.now.hosted.now g.P.Post.tells c.args.steps.now c.next_publish-next.result (seen c.args.node.now) _
+  goes = none_came c.args.site.now.topo.now c.args.site.now.hosted.now g.P.Post.tells c.args.steps.now c.next_request-next.result (seen c.args.node.now) _
       (λ came. g.D.Disk.tells → StoodEachTime c.args.site.now.topo.now c.args.site.now.hosted.now c.args.steps.now (seen c.args.node.now) came (g.D.Disk.lane_of c.args.disk.now))
-      c.next_publish-next.ensures.same (λ tells. stood_none c.args.site.now.topo.now c.args.site.now.hosted.now c.args.steps.now (seen c.args.node.now) _);
-  within = c.next_publish-next.ensures.within.1;
-  first = c.next_publish-next.ensures.first;
+      c.next_request-next.ensures.same (λ tells. stood_none c.args.site.now.topo.now c.args.site.now.hosted.now c.args.steps.now (seen c.args.node.now) _);
+  within = c.next_request-next.ensures.within.1;
+  first = c.next_request-next.ensures.first;
   empty = c.requires.can.written;
   serving = c.requires.can.serving;
   others = λ tells lane here. refl;

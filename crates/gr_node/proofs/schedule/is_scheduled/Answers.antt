@@ -1,5 +1,4 @@
-use Rattle.std.proofs.Common.{ap, ◌∙◌}
-use Rattle.gr_out.specs.Journal.{is_among}
+use Rattle.std.proofs.Common.{◌∙◌}
 use Rattle.gr_topo.specs.Topology.{client_of}
 use Rattle.gr_model.specs.NetOf.{net_of}
 use Rattle.gr_model.specs.Arrivals.{is_hosted}
@@ -14,6 +13,5 @@ returns-in-Some c =
 pub returns-in-None : goal.returns-in-None
 returns-in-None c =
     let t = c.args.site.now.topo.now in
-    c.is_among.ensures
-    ∙ (ap (is_among c.args.site.now.hosted.now) c.host.ensures.host
-    ∙ without_client (is_hosted (net_of t) c.args.site.now.hosted.now c.args.p) (client_of t c.args.p) c.in-None.ensures)
+    c.is_hosted.ensures
+    ∙ without_client (is_hosted (net_of t) c.args.site.now.hosted.now c.args.p) (client_of t c.args.p) c.in-None.ensures

@@ -1,11 +1,13 @@
 -- The event is published at the host's place
-use Rattle.std.proofs.Common.{sym}
+use Rattle.std.proofs.Common.{sym, Option}
+use Rattle.gr_publog.specs.declared.record.Record.{Record}
 use Rattle.gr_topo.specs.Topology.{host_of}
+use Rattle.gr_model.specs.Broker.{Outcome as MachineOutcome}
 use Rattle.gr_broker.specs.Told.{log_answer}
-use Rattle.gr_broker.specs.Hosted.{publish_logs_at}
+use Rattle.gr_broker.specs.Hosted.{publish_at, publish_logs_at}
 use Rattle.gr_node.specs.Seen.{seen}
 use Rattle.gr_node.proofs.Exchanged.{Place, placed, placed_at, hosts_here}
-use Rattle.gr_node.proofs.Called.{Publishes, makes_publish, fits_publish, stands_publish}
+use Rattle.gr_node.proofs.Called.{Publishes, makes_publish, fits_at_host, stands_at_host}
 use Rattle.gr_node.proofs.Lasting.{all_on, keep_publish}
 use Rattle.gr_node.proofs.node.Node.publish_at.Given.{Over}
 use Rattle.gr_node.proofs.node.Node.publish_at.Goals as goal
@@ -26,6 +28,12 @@ place g c =
     (placed c.args.topo.now (seen c.args.self.now) c.host-host.result c.take_out-broker.result c.publish-answer.new.self c.take_out-broker.new.brokers.items c.put_back.new.brokers.items
     c.requires.fits c.take_out-broker.ensures.was c.take_out-broker.ensures.left c.put_back.ensures)
 
+abbrev outcome : (g : Over) (c : goal.After-answered g) → MachineOutcome
+outcome g c = publish_at c.args.topo.now c.take_out-broker.result c.args.p c.args.self.now.now c.args.number c.args.event.now
+
+abbrev logs : (g : Over) (c : goal.After-answered g) → Option Record
+logs g c = publish_logs_at c.take_out-broker.result c.args.p c.args.self.now.now c.args.number c.args.event.now
+
 gives : (g : Over) (c : goal.After-answered g) → Publishes c.args.topo.now c.take_out-broker.result c.args.p c.args.self.now.now c.args.number c.args.event.now c.publish-answer.new.self c.publish-answer.result
 gives g c = let e = c.publish-answer.ensures in record { told = e.told; leaves = e.leaves; fits = e.fits }
 
@@ -36,13 +44,13 @@ returns-clause-makes g c =
 
 pub returns-clause-fits : goal.returns-clause-fits
 returns-clause-fits g c =
-    fits_publish c.args.topo.now (seen c.args.self.now) c.args.p c.args.number c.args.event.now c.take_out-broker.result c.publish-answer.new.self c.put_back.new.brokers.items
-    (place g c) c.requires.publisher c.publish-answer.result c.answered.result c.answered.ensures (gives g c)
+    fits_at_host c.args.topo.now (seen c.args.self.now) c.args.p c.take_out-broker.result c.publish-answer.new.self c.put_back.new.brokers.items
+    (place g c) c.requires.publisher c.publish-answer.result c.answered.result c.answered.ensures (outcome g c) (logs g c) (gives g c)
 
 pub returns-clause-stands : goal.returns-clause-stands
 returns-clause-stands g c = λ tells.
-    stands_publish c.args.topo.now (seen c.args.self.now) c.args.p c.args.number c.args.event.now c.take_out-broker.result c.publish-answer.new.self c.put_back.new.brokers.items
-    (place g c) c.requires.publisher c.publish-answer.result c.answered.result c.answered.ensures (gives g c)
+    stands_at_host c.args.topo.now (seen c.args.self.now) c.args.p c.take_out-broker.result c.publish-answer.new.self c.put_back.new.brokers.items
+    (place g c) c.requires.publisher c.publish-answer.result c.answered.result c.answered.ensures (outcome g c) (logs g c) (gives g c)
     (g.D.Disk.lane_of c.args.disk.now) (g.D.Disk.lane_of c.publish-answer.new.disk) (c.publish-answer.ensures.uses.others tells) (c.requires.stands tells) (c.publish-answer.ensures.stands tells)
 
 pub returns-clause-keeps : goal.returns-clause-keeps

@@ -1,0 +1,32 @@
+use Rattle.std.proofs.Common.{refl}
+use Rattle.gr_node.specs.Seen.{seen}
+use Rattle.gr_node.specs.Plan.{joins}
+use Rattle.gr_node.specs.Went.{outside}
+use Rattle.gr_node.proofs.Keeping.{if_ok, set_on, serving_of}
+use Rattle.gr_node.proofs.Wending.{went_call, went_refused}
+use Rattle.gr_node.proofs.turning.join.Goals as goal
+
+pub returns-in-Ok-clause-went : goal.returns-in-Ok-clause-went
+returns-in-Ok-clause-went g c = went_call c.args.site.now.topo.now c.args.site.now.hosted.now g.P.Post.tells (joins c.args.s c.args.p) (seen c.args.node.now) (seen c.join_at.new.self) c.in-Ok.told c.tell.new.offers c.tell.new.orders
+    (outside (g.K.Sink.taken c.args.sink.now) c.args.page.now.held (g.P.Post.journal c.args.post.now))
+    (outside (g.K.Sink.taken c.tell.new.sink) c.tell.new.page.held (g.P.Post.journal c.tell.new.post))
+    c.tell.result c.in-Ok.ensures.makes (record {
+      told_all = c.tell.ensures.told;
+      front = c.tell.ensures.front;
+      sent = c.tell.ensures.sent;
+      sent_front = c.tell.ensures.sent_front;
+      count = c.tell.ensures.offers;
+      heard = c.tell.ensures.heard;
+      cause = c.tell.ensures.keeps.puts.cause;
+    })
+
+pub returns-in-Ok-clause-serving : goal.returns-in-Ok-clause-serving
+returns-in-Ok-clause-serving g c =
+    serving_of _ _ _ _ _ c.tell.result
+    (set_on c.args.site.now.topo.now c.args.site.now.hosted.now (seen c.args.node.now) (seen c.join_at.new.self) (joins c.args.s c.args.p) c.in-Ok.told c.tell.new.offers c.tell.new.orders c.tell.result
+    c.in-Ok.ensures.makes c.in-Ok.ensures.fits c.tell.ensures.heard c.requires.serving.set)
+    (λ tells. if_ok c.tell.result (c.in-Ok.ensures.stands tells))
+
+pub returns-in-Err-clause-went : goal.returns-in-Err-clause-went
+returns-in-Err-clause-went g c = went_refused c.args.site.now.topo.now c.args.site.now.hosted.now g.P.Post.tells _ _ (seen c.args.node.now) _
+    (outside (g.K.Sink.taken c.args.sink.now) c.args.page.now.held (g.P.Post.journal c.args.post.now)) c.in-Err.fault c.in-Err.ensures.cause (λ e. refl)
