@@ -1,5 +1,5 @@
 -- The text of what steps tell over a world and lists, cut behind one of them
-use Rattle.std.proofs.Common.{◌≡◌, ℕ, ◌+◌, ◌<◌, List, [], ◌∷◌, ◌++◌, take, drop, get_or, length, sym, ap, ◌∙◌, subst}
+use Rattle.std.proofs.Common.{◌≡◌, ℕ, ◌+◌, ◌<◌, List, [], ◌∷◌, ◌++◌, take, drop, get_or, length, refl, sym, ap, ◌∙◌, subst}
 use Rattle.std.proofs.lemmas.List.{take_more, take-append-drop}
 use Rattle.gr_sched.specs.declared.step.Line.{Line}
 use Rattle.gr_topo.specs.Topology.{TopologyView}
@@ -8,23 +8,23 @@ use Rattle.gr_model.specs.Net.{Net}
 use Rattle.gr_model.specs.NetOf.{net_of}
 use Rattle.gr_model.specs.Orders.{Order, fed, with_orders, orders_of, AreOrdersOf}
 use Rattle.gr_model.specs.Text.{Labels, labels_of, report_text}
-use Rattle.gr_model.specs.World.{World, Transition, followed_by, next, run_all, run_from, start}
+use Rattle.gr_model.specs.World.{World, Transition, next, run_all, run_from, start}
 use Rattle.gr_model.proofs.Ordering.{fed_keeps, rested_keeps}
-use Rattle.gr_model_theorems.proofs.server.Arriving.{run_append}
 use Rattle.gr_world.specs.Seen.{WorldView, net_in, world_of}
 use Rattle.gr_replay.specs.Replayed.{all_lines, replayed_text}
 use Rattle.gr_replay.specs.Going.{Tells, with_ready, left_behind, orders_after, step_text, text_from}
 use Rattle.gr_replay.specs.Over.{opened_text}
 use Rattle.gr_replay.proofs.OrderTexts.{told_append, told_more, after_more, lines_append, lines_more, text_append, replayed_apart}
 
--- the steps before one, and it
-one_more : (net : Net) (w : World) (steps : List Line) (i : ℕ) (l : Line) → i < length steps → l ≡ get_or steps i l → run_all net w (take (i + 1) steps) ≡ followed_by (run_all net w (take i steps)) (λ u. run_all net u (l ∷ []))
-one_more net w steps i l h e =
-    ap (run_all net w) (take_more steps i l h ∙ ap (λ x. take i steps ++ x ∷ []) (sym e)) ∙ run_append net w (take i steps) (l ∷ [])
+-- where the steps before one lead, and it
+led_behind : (net : Net) (w : World) (steps : List Line) (l : Line) → (run_all net w (steps ++ l ∷ [])).world ≡ (next net (run_all net w steps).world l).world
+led_behind net w [] l = refl
+led_behind net w (s ∷ steps) l = led_behind net (next net w s).world steps l
 
--- where they lead
+-- the same of the first so many steps
 pub leads_more : (net : Net) (w : World) (steps : List Line) (i : ℕ) (l : Line) → i < length steps → l ≡ get_or steps i l → (run_all net w (take (i + 1) steps)).world ≡ (next net (run_all net w (take i steps)).world l).world
-leads_more net w steps i l h e = ap (λ (t : Transition). t.world) (one_more net w steps i l h e)
+leads_more net w steps i l h e =
+    ap (λ xs. (run_all net w xs).world) (take_more steps i l h ∙ ap (λ x. take i steps ++ x ∷ []) (sym e)) ∙ led_behind net w (take i steps) l
 
 -- the text with one step more, where a world and lists stand between
 pub text_step : (first w : WorldView) (os now : List Order) (steps : List Line) (i : ℕ) (l : Line) → i < length steps → l ≡ get_or steps i l → w.topo ≡ first.topo → world_of w ≡ (run_all (net_in first) (world_of first) (take i steps)).world

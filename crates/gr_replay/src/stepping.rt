@@ -61,8 +61,10 @@ fn call<D: SimDisk>(
             Err(_) => Err(WorldFault::Memory),
         },
         Step::Bytes { frame } => world.bytes(*frame),
-        // No step of a topology is a join.
-        Step::Join { .. } => unreachable!(),
+        Step::Join {
+            subscriber,
+            publisher,
+        } => world.join(disk, *subscriber, *publisher),
     }
 }
 
