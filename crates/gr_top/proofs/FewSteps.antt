@@ -11,10 +11,10 @@ use Rattle.gr_sched.specs.Grammar.{lines_of, limited, steps_of}
 use Rattle.gr_sched.proofs.InRange.{read_few}
 use Rattle.gr_topo.specs.declared.fault.TopoFault.{TopoFault}
 use Rattle.gr_topo.specs.Read.{topology_text}
-use Rattle.gr_topo.specs.Topology.{TopologyView, naming_of, not_empty}
+use Rattle.gr_topo.specs.Topology.{TopologyView, naming_of}
 use Rattle.gr_scenario.specs.declared.asked.Asked.{Asked}
 use Rattle.gr_scenario.specs.declared.asked.Asked.TheVariants.{TooManyBytes, TooManySteps, Refused, Scenario}
-use Rattle.gr_scenario.specs.Refusals.{topology_line, step_line, not_built_line}
+use Rattle.gr_scenario.specs.Refusals.{topology_line, step_line}
 use Rattle.gr_scenario.specs.Scenario.{asked_of_steps, asked_of_parts, asked_by}
 
 -- lines that were read within the limit are no more than it
@@ -27,11 +27,7 @@ few_lines names counted lines e = go (slice_get counted MAX_STEPS) refl e
     go (Some c) is read = let bad : Err (TooMany c.0) ≡ Ok lines = read in cc
 
 few_steps : (t u : TopologyView) (read : Result (List Line) StepFault) (lines : List Line) → asked_of_steps t read ≡ Scenario u lines → read ≡ Ok lines
-few_steps t u (Ok ls) lines e = go (not_empty t.late) e
-  where
-    go : (late : Bool) → (if late then Refused not_built_line else Scenario t ls) ≡ Scenario u lines → ◌≡◌ {A = Result (List Line) StepFault} (Ok ls) (Ok lines)
-    go true same = let bad : Refused not_built_line ≡ Scenario u lines = same in cc
-    go false same = let is : Scenario t ls ≡ Scenario u lines = same in cc
+few_steps t u (Ok ls) lines e = let is : Scenario t ls ≡ Scenario u lines = e in cc
 few_steps t u (Err why) lines e = let bad : Refused (step_line why) ≡ Scenario u lines = e in cc
 
 few_parts : (r : Result TopologyView TopoFault) (back : List ℕ) (u : TopologyView) (lines : List Line) → asked_of_parts r back ≡ Scenario u lines → length lines ≤ MAX_STEPS

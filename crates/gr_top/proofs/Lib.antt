@@ -3,6 +3,7 @@ pub mod TwoRequired
 pub mod HostingLemmas
 pub mod FewSteps
 pub mod OrderLemmas
+pub mod JoinLemmas
 pub mod SweptLemmas
 pub mod CutLemmas
 pub mod RunLemmas

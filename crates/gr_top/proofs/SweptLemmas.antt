@@ -1,19 +1,21 @@
 -- Each sweep of a schedule that is not refused settles everything: its lines are those of the machine's sweep, after the steps before it
-use Rattle.std.proofs.Common.{◌≡◌, ◌⊎◌, inl, inr, ℕ, suc, ◌≤◌, ◌<◌, max, Bool, true, false, List, [], ◌∷◌, ◌++◌, length, drop, refl, sym, ap, ap₂, ◌∙◌, subst, arith}
-use Rattle.std.specs.Prelude.{nat_lt}
+use Rattle.std.proofs.Common.{◌≡◌, ◌⊎◌, inl, inr, ℕ, suc, ◌≤◌, ◌<◌, max, Bool, true, false, List, [], ◌∷◌, ◌++◌, length, drop, filter, refl, sym, ap, ap₂, ◌∙◌, subst, arith}
+use Rattle.std.specs.Prelude.{nat_lt, nat_le}
 use Rattle.std.proofs.lemmas.Bool.{cases_lt, le-leb, lt-ltb}
 use Rattle.gr_sched.specs.declared.step.Step.TheVariants as step
 use Rattle.gr_sched.specs.declared.step.Line.{Line}
 use Rattle.gr_model.specs.declared.report.Report.{Report}
 use Rattle.gr_model.specs.declared.report.Report.TheVariants as line
-use Rattle.gr_model.specs.Net.{Net, numbers}
+use Rattle.gr_model.specs.Net.{Net, numbers, wants_with}
 use Rattle.gr_model.specs.Broker.{max_tick}
-use Rattle.gr_model.specs.Headline.{History, history, begin}
-use Rattle.gr_model.specs.World.{World, Transition, next, next_by, run_all, run_from, run_from_by, report_of, report_of_by, start, unchanged, followed_by, in_turn, sweep, sweep_by, sweep_for, sweep_moment}
+use Rattle.gr_model.specs.Headline.{History, history, begin, record_of, recorded_net}
+use Rattle.gr_model.specs.World.{World, Transition, next, next_by, run_all, run_from, run_from_by, report_of, report_of_by, start, unchanged, followed_by, in_turn, sweep as sweep_now, sweep_by, sweep_moment}
+use Rattle.gr_model_calls.specs.OneNet.{sweep, sweep_for}
 use Rattle.gr_model_calls.specs.Fits.{StepsIn, history_of}
 use Rattle.gr_model_theorems.specs.Settles.{SweepSettles, AllGot, all_made, at_sweep, is_accepted, sweep_calls}
-use Rattle.gr_model_theorems.specs.Statements.{IsAskedRun, IsSweptRun, world_after}
+use Rattle.gr_model_theorems.specs.Statements.{IsAskedRun, IsMarkedRun, IsSweptRun, SweepsAsOne, joined_net, world_after}
 use Rattle.gr_top.specs.Swept.{SettlesAll, SweepsSettle}
+use Rattle.gr_top.proofs.JoinLemmas.{recorded_last}
 
 -- Lists
 
@@ -60,7 +62,7 @@ as_many net w (x ∷ xs) = ap suc (as_many net (next net w x).world xs)
 
 -- A sweep
 
-next_sweep : (net : Net) (w : World) (k : ℕ) → next net w (record { number = k; step = step.Sweep }) ≡ sweep net w k
+next_sweep : (net : Net) (w : World) (k : ℕ) → next net w (record { number = k; step = step.Sweep }) ≡ sweep_now net w k
 unfolding next_by
 next_sweep net w k = refl
 
@@ -99,28 +101,43 @@ moment_is net w k moment most s e = swept (sym (last_is (line.Swept 0) (line.Swe
     swept : {a b : ℕ} → line.Swept a ≡ line.Swept b → a ≡ b
     swept h = cc
 
+-- A sweep by the joins so far
+
+-- its moment is no matter of the joins
+moment_same : (net : Net) (steps : List Line) (w : World) → sweep_moment (joined_net net steps) w ≡ sweep_moment net w
+unfolding sweep_moment
+moment_same net steps w = refl
+
+-- what each subscriber is to have by the logs is what it is to have by the record
+owed_same : (net : Net) (steps : List Line) (s p : ℕ) → IsAskedRun net steps
+    → (let h = history_of net steps in filter (λ x. (joined_net net steps).wants p s x.0 x.1) (record_of h p).events ≡ filter (λ x. (recorded_net net h).wants p s x.0 x.1) (record_of h p).events)
+owed_same net steps s p r =
+    ap (λ js. filter (λ x. wants_with net js p s x.0 x.1) (record_of (history_of net steps) p).events) (sym (recorded_last net steps p r.tree r.quiet r.steps_in))
+
 -- Each sweep of a schedule
 
-pub sweeps_settle : (net : Net) (lines : List Line) → IsAskedRun net lines → ((steps : List Line) (k : ℕ) → IsSweptRun net steps → SweepSettles net (world_after net steps) k)
-    → ((steps : List Line) (k : ℕ) → IsSweptRun net steps → AllGot net (history_of net steps) (world_after net steps) k) → SweepsSettle net lines (report_of net lines)
-sweeps_settle net lines r settles gets done left k moment before after told most order is many ends =
+pub sweeps_settle : (net : Net) (lines : List Line) → IsAskedRun net lines → ((steps : List Line) (k : ℕ) → IsSweptRun net steps → SweepSettles (joined_net net steps) (world_after net steps) k)
+    → ((steps : List Line) (k : ℕ) → IsMarkedRun net steps → SweepsAsOne net steps k)
+    → ((steps : List Line) (k : ℕ) → IsSweptRun net steps → AllGot (joined_net net steps) (history_of net steps) (world_after net steps) k) → SweepsSettle net lines (report_of net lines)
+sweeps_settle net lines r settles same_sweep gets done left k moment before after told most order is many ends =
     let l : Line = record { number = k; step = step.Sweep } in
     let w : World = world_after net done in
+    let g : Net = joined_net net done in
     let front : List (List Report) = [] ∷ run_from net (start net) done in
     let whole : before ++ told ∷ after ≡ front ++ (next net w l).lines ∷ run_from net (next net w l).world left = sym is ∙ (ap (report_of net) order ∙ report_cut net done l left) in
     let long : length before ≡ length front = many ∙ ap suc (sym (as_many net (start net) done)) in
     let cut = cut_once before front told (next net w l).lines after (run_from net (next net w l).world left) long whole in
-    let lines_are : told ≡ (sweep net w k).lines = cut.1 ∙ ap (λ (t : Transition). t.lines) (next_sweep net w k) in
-    let accepted : is_accepted net w ≡ true = accepts net w k moment most (sym lines_are ∙ ends) in
-    let run : IsSweptRun net done = record {
-      asked = record { tree = r.tree; quiet = r.quiet; retry = r.retry; steps_in = front_in net done l left (subst (StepsIn net) order r.steps_in) };
-      accepted = accepted;
-    } in
+    let steps_in : StepsIn net done = front_in net done l left (subst (StepsIn net) order r.steps_in) in
+    let asked : IsAskedRun net done = record { tree = r.tree; quiet = r.quiet; retry = r.retry; steps_in = steps_in } in
+    let marked : IsMarkedRun net done = record { tree = r.tree; quiet = r.quiet; steps_in = steps_in } in
+    let lines_are : told ≡ (sweep g w k).lines = cut.1 ∙ (ap (λ (t : Transition). t.lines) (next_sweep net w k) ∙ ap (λ (t : Transition). t.lines) (same_sweep done k marked)) in
+    let accepted : is_accepted net w ≡ true = subst (λ m. nat_le m max_tick ≡ true) (moment_same net done w) (accepts g w k moment most (sym lines_are ∙ ends)) in
+    let run : IsSweptRun net done = record { asked = asked; accepted = accepted } in
     let s = settles done k run in
-    let at : sweep_moment net w ≡ moment = moment_is net w k moment most s (sym lines_are ∙ ends) in
+    let at : sweep_moment g w ≡ moment = moment_is g w k moment most s (sym lines_are ∙ ends) in
     let h : History = history_of net done in
     let same : history net (begin net) done (drop 1 before) ≡ h = ap (λ b. history net (begin net) done (drop 1 b)) cut.0 in
     subst (λ x. SettlesAll net x moment told) (sym same)
     (subst (λ ls. SettlesAll net h moment ls) (sym lines_are)
-    (subst (λ m. SettlesAll net h m (sweep net w k).lines) at
-    (record { marked = s.marked; cut = s.last_cuts; horizon = s.last_horizons; all_got = gets done k run })))
+    (subst (λ m. SettlesAll net h m (sweep g w k).lines) at
+    (record { marked = s.marked; cut = s.last_cuts; horizon = s.last_horizons; all_got = λ q p at_s at_p. gets done k run q p at_s at_p ∙ owed_same net done q p asked })))

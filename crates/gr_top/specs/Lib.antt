@@ -5,5 +5,6 @@ pub mod Submitter
 pub mod Publishing
 pub mod Answers
 pub mod Behind
+pub mod Joining
 pub mod Swept
 pub mod Top

@@ -10,13 +10,13 @@ use Rattle.gr_model.specs.NetOf.{net_of}
 use Rattle.gr_model.specs.Ordered.{OneOrder, TotallyOrdered}
 use Rattle.gr_model.specs.Orders.{orders_of, ordered_steps, with_orders}
 use Rattle.gr_model.specs.Text.{labels_of, report_text}
-use Rattle.gr_model_theorems.specs.ByRules.{ReportByRules}
 use Rattle.gr_model_theorems.specs.Replies.{Replied}
 use Rattle.gr_scenario.specs.declared.asked.Asked.{Asked}
 use Rattle.gr_scenario.specs.declared.asked.Asked.TheVariants.{Scenario}
 use Rattle.gr_replay.specs.Replayed.{all_lines}
 use Rattle.gr_top.specs.Answers.{Answer}
 use Rattle.gr_top.specs.Behind.{AreBehind}
+use Rattle.gr_top.specs.Joining.{IsByRules, joined_by, LateGetPastJoin}
 use Rattle.gr_top.specs.Swept.{SweepsSettle}
 
 -- the text of a report: the lines of each step, and behind them what is ready then in the one list of each subscriber
@@ -28,11 +28,13 @@ printed_text t report = report_text (labels_of t) (all_lines (with_orders (order
 pub record MeetsHeadline (t : TopologyView) (lines : List Line) (report : List (List Report)) : Type 0 where
   -- each step makes its calls, and each call forwards, asks, acknowledges, tells and keeps what its rule says; the
   -- lines are those of the calls and frames in their order
-  pub by_rules : ReportByRules (net_of t) lines report
+  pub by_rules : IsByRules (net_of t) lines report
   -- no other report is one by the rules
-  pub alone : (other : List (List Report)) → ReportByRules (net_of t) lines other → other ≡ report
+  pub alone : (other : List (List Report)) → IsByRules (net_of t) lines other → other ≡ report
   -- recorded lines, delivered exactly, doubt horizons, horizons rise and discarded only after delivery, step by step
   pub headline : Headline (net_of t) lines report
+  -- a late subscriber has exactly the events past its join that its filter matches, and nothing while it has none
+  pub late : LateGetPastJoin (net_of t) lines report
   -- each step is refused, and bytes are shown, exactly where the schedule and the frames sent demand it; sent lines are
   -- numbered 1, 2, 3 and so on
   pub replied : Replied (net_of t) lines report
@@ -44,8 +46,9 @@ pub record MeetsHeadline (t : TopologyView) (lines : List Line) (report : List (
   -- that is, after each step each of these was told exactly what all publishers have up to where it has heard them all,
   -- each event once, rising by tick and then publisher
   pub ordered : TotallyOrdered (net_of t) (totals_of t) lines report (ordered_steps (orders_of t) report)
-  -- and of two of these that want the same, at any two steps, one list begins with the other
-  pub one_order : OneOrder (net_of t) (totals_of t) (ordered_steps (orders_of t) report)
+  -- and of two of these that want the same, late ones by the joins that they have in the end, at any two steps, one
+  -- list begins with the other
+  pub one_order : OneOrder (joined_by (net_of t) lines report) (totals_of t) (ordered_steps (orders_of t) report)
 
 -- A schedule over a topology was asked for, and a report that meets the headline was taken whole
 pub record WasReplayed (old new : Option (List ℕ)) (asked : Asked) : Type 0 where

@@ -7,8 +7,8 @@ ghost use Rattle.gr_top.specs.Top.{MeetsHeadline};
 
 use gr_model::topologies::every_topology_is_a_tree;
 use gr_model_theorems::theorems::{
-    headline_always, one_order_always, ordered_always, replies_stand, runs_by_rules,
-    sweep_hands_over, sweep_settles,
+    headline_always, late_gets_past_its_join, one_order_always, ordered_always, replies_stand,
+    runs_by_rules, sweep_hands_over, sweep_settles,
 };
 use gr_sched::Steps;
 use gr_topo::Topology;
@@ -21,6 +21,7 @@ pub fn every_report_meets_the_headline(topology: &Topology, steps: &Steps)
 {
     every_topology_is_a_tree(topology);
     headline_always();
+    late_gets_past_its_join();
     runs_by_rules();
     replies_stand();
     ordered_always();
