@@ -35,7 +35,7 @@ pub fn joins(alloc: Global, words: &str) -> Result<Joins, Stop> {
 }
 
 /// The join that a word spells, by its subscriber and its tick.
-fn join_of(word: &str) -> Result<Join, Stop> {
+pub fn join_of(word: &str) -> Result<Join, Stop> {
     let Some((subscriber, tick)) = word.split_once(':') else {
         return Err(Stop::NoRow);
     };

@@ -40,6 +40,17 @@ fn put_line(line: &Report, page: &mut Page) {
     match line {
         Report::Opened { last, settled, .. } => put_two(" opened ", *last, *settled, page),
         Report::Logged { number, tick, .. } => put_two(" logged ", *number, *tick, page),
+        Report::Joined {
+            subscriber,
+            tick,
+            ..
+        } => put_pair(" joined ", *subscriber, *tick, page),
+        Report::AlreadyJoined { subscriber, .. } => {
+            put_counted(" already-joined ", u64::from(*subscriber), page);
+        }
+        Report::ExhaustedJoin { subscriber, .. } => {
+            put_counted(" exhausted-join ", u64::from(*subscriber), page);
+        }
         Report::Kept { number, tick, .. } => put_two(" kept ", *number, *tick, page),
         Report::Lost { number, tick, .. } => put_two(" lost ", *number, *tick, page),
         Report::Mark { tick, .. } => put_counted(" mark ", *tick, page),

@@ -4,7 +4,7 @@ ghost use Rattle.std.specs.Prelude.{◌≤◌, ◌<◌, IfOk};
 ghost use Rattle.gr_topo.specs.Topology.{blank};
 ghost use Rattle.gr_model.specs.Text.{IsNamed};
 
-use crate::known::{curiosity, event, joins, knowledge, known};
+use crate::known::{curiosity, event, join_of, joins, knowledge, known};
 use crate::words::{line_number, short_number, small_number};
 use gr_event::Bytes;
 use gr_know::K;
@@ -19,6 +19,7 @@ pub fn report(alloc: Global, line: &str) -> Result<Report, Stop>
     let (word, rest) = first_word(line);
     match word {
         "logged" | "already" | "gap" | "exhausted" => publish_line(word, rest),
+        "joined" | "already-joined" | "exhausted-join" => join_line(word, rest),
         "kept" | "lost" | "mark" | "cut" => stop_line(word, rest),
         "opened" | "log" | "damaged" => log_line(word, rest),
         "sent-know" | "sent-want" | "sent-expect" => sent_line(alloc, word, sent_frame(rest)?),
@@ -26,6 +27,7 @@ pub fn report(alloc: Global, line: &str) -> Result<Report, Stop>
         "crashed" | "swept" | "frames" | "bytes" => done_line(alloc, word, rest),
         "refused-hosts" | "refused-frame" | "refused-clock" => refused_line(word, rest),
         "dropped-clash" => clash_line(alloc, rest),
+        "dropped-split" => split_line(rest),
         _ => dropped_line(word, rest),
     }
 }
@@ -114,6 +116,33 @@ fn gap(words: &str) -> Result<Report, Stop>
         number,
         next,
     })
+}
+
+/// What became of a join.
+fn join_line(word: &str, rest: &str) -> Result<Report, Stop>
+    ensures { IfOk result (λ r. IsNamed blank r) }
+{
+    if word == "joined" {
+        return Ok(Report::Joined {
+            subscriber: 0,
+            publisher: 0,
+            tick: number(behind("0 0 ", rest)?)?,
+        });
+    }
+    if rest != "0 0" {
+        return Err(Stop::NoRow);
+    }
+    if word == "already-joined" {
+        Ok(Report::AlreadyJoined {
+            subscriber: 0,
+            publisher: 0,
+        })
+    } else {
+        Ok(Report::ExhaustedJoin {
+            subscriber: 0,
+            publisher: 0,
+        })
+    }
 }
 
 /// What became of a publish that was stopped, and how a log moved on.
@@ -404,6 +433,21 @@ fn clash(alloc: Global, broker: u16, tick: u64, kept: K, came: &str) -> Result<R
         tick,
         kept,
         came,
+    })
+}
+
+/// A datagram whose joins split from those that are held.
+fn split_line(words: &str) -> Result<Report, Stop>
+    ensures { IfOk result (λ r. IsNamed blank r) }
+{
+    let (b, rest) = first_word(words);
+    let (at, rest) = first_word(rest);
+    let (kept, came) = first_word(rest);
+    Ok(Report::DroppedSplit {
+        broker: broker(b)?,
+        at: short_number(at)?,
+        kept: join_of(kept)?,
+        came: join_of(came)?,
     })
 }
 

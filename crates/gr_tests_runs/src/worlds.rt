@@ -116,6 +116,7 @@ impl Run {
             "clock" => self.clock(number(rest)?),
             "publish" => self.publish(small_number(rest)?, page),
             "stop" => self.stop(rest, page),
+            "join" => self.join(short_number(rest)?, page),
             "wake" => self.wake(short_number(rest)?, page),
             "deliver" => self.deliver(number(rest)?, page),
             "crash" => self.crash(short_number(rest)?, page),
@@ -176,6 +177,17 @@ impl Run {
         let answer = self
             .world
             .publish_stopped(&mut self.disk, 0, number, &event, &stop);
+        tell(&answer, page);
+        Ok(())
+    }
+
+    /// A late subscriber joins publisher 0.
+    fn join(&mut self, subscriber: u16, page: &mut Page) -> Result<(), Stop> {
+        let topology = self.world.topology();
+        if topology.publishers() == 0 || !topology.late(subscriber) {
+            return Err(Stop::NoRow);
+        }
+        let answer = self.world.join(&mut self.disk, subscriber, 0);
         tell(&answer, page);
         Ok(())
     }
