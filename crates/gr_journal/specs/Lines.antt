@@ -1,6 +1,6 @@
 -- The journals that bytes are, or the first line that is none of a journal
-use Rattle.std.specs.Prelude.{ℕ, ◌+◌, Bool, nat_eq, if◌then◌else◌, List, [], ◌∷◌, ◌++◌, codes, length, take, Option, Some}
-use Rattle.std.specs.Prelude.{None, option_map, is_some, Result, Ok, Err, bytes_eq}
+use Rattle.std.specs.Prelude.{ℕ, ◌+◌, Bool, nat_eq, if◌then◌else◌, List, [], ◌∷◌, ◌++◌, codes, length, take, Option}
+use Rattle.std.specs.Prelude.{Some, None, option_map, is_some, Result, Ok, Err, bytes_eq}
 use Rattle.std.specs.Fmt.{decimal}
 use Rattle.std.specs.List.{list_any, filter, flat_map}
 use Rattle.gr_tree.specs.Walks.{numbers}

@@ -1,6 +1,6 @@
 -- The words of a journal's line: between any two stands one space
-use Rattle.std.specs.Prelude.{ℕ, ◌+◌, ◌-◌, ◌*◌, ◌/◌, ◌%◌, ◌==◌, ◌&&◌, ◌||◌, min, Bool, nat_eq, nat_le, nat_lt, if◌then◌else◌, List, []}
-use Rattle.std.specs.Prelude.{◌∷◌, codes, length, Option, Some, None, bytes_eq, slice_index}
+use Rattle.std.specs.Prelude.{ℕ, ◌+◌, ◌-◌, ◌*◌, ◌/◌, ◌%◌, ◌==◌, ◌&&◌, ◌||◌, min, Bool, nat_eq, nat_le, nat_lt}
+use Rattle.std.specs.Prelude.{if◌then◌else◌, List, [], ◌∷◌, codes, length, Option, Some, None, bytes_eq, slice_index}
 use Rattle.std.specs.List.{list_all, flat_map}
 use Rattle.gr_sched.specs.declared.step.TheConstants.{MAX_NUMBER}
 use Rattle.gr_sched.specs.Text.{longer}

@@ -1,8 +1,9 @@
 //! The journals of processes: what came to each and what it did, line by line.
 //!
-//! `split` finds the line `===` between a scenario and journals. `read_journals` reads these: its answer is the journals,
-//! each line in its one spelling, or the first line that is none of a journal (`journals_of` in `specs/Lines.antt`).
-//! `unhosted` says whether each broker is in one process and in no other, and `rising` puts the brokers of one in order.
+//! `split` finds the line `===` between a scenario and journals. `read_journals` reads these: its answer is the
+//! journals, each line in its one spelling, or the first line that is none of a journal (`journals_of` in
+//! `specs/Lines.antt`). `unhosted` says whether each broker is in one process and in no other, and `rising` puts the
+//! brokers of one in order.
 #![tactic(auto)]
 
 mod arrival;
@@ -16,7 +17,7 @@ mod spelling;
 mod text;
 mod words;
 
-pub use arrival::{Arrival, Came, CameList};
+pub use arrival::{Arrival, Came, CameList, MAX_DATAGRAM};
 pub use fault::AuditFault;
 pub use hosting::{rising, unhosted};
 pub use journal::{Journal, JournalList};

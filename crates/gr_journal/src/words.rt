@@ -1,6 +1,7 @@
 //! The words of a journal's line, its moments and its bytes.
 
-ghost use Rattle.std.specs.Prelude.{◌≡◌, ◌+◌, ◌<◌, ◌≤◌, ◌∷◌, length, if◌then◌else◌, Some, None, option_map, IfOk, IfSome};
+ghost use Rattle.std.specs.Prelude.{◌≡◌, ◌+◌, ◌<◌, ◌≤◌, ◌∷◌, length, if◌then◌else◌, Some, None, option_map};
+ghost use Rattle.std.specs.Prelude.{IfOk, IfSome};
 ghost use Rattle.std.specs.List.{list_all, position, position_or_len};
 ghost use Rattle.gr_sched.specs.Words.{is_number, value_after};
 ghost use Rattle.gr_journal.specs.Words.{is_space, words_of, more_words, only_word, moment_of, is_hex_digit, is_hex};
