@@ -8,6 +8,7 @@ use Rattle.gr_sched.specs.declared.step.TheConstants.{MAX_NUMBER}
 use Rattle.gr_sched.specs.Words.{is_number, value_after}
 use Rattle.gr_tree.specs.Walks.{numbers_from, numbers}
 use Rattle.gr_topo.specs.Topology.{TopologyView, number_of}
+use Rattle.gr_journal.specs.declared.arrival.TheConstants.{MAX_DATAGRAM}
 use Rattle.gr_journal.specs.declared.arrival.Arrival.{Arrival}
 use Rattle.gr_journal.specs.declared.arrival.Arrival.TheVariants.{Quiet, Datagram}
 use Rattle.gr_journal.specs.declared.arrival.Came.{Came}
@@ -20,7 +21,7 @@ use Rattle.gr_journal.specs.Gives.{◌>>=◌}
 use Rattle.gr_journal.specs.Parts.{lines_of}
 use Rattle.gr_journal.specs.Words.{words_of, only_word, moment_of, is_hex, datagram_of}
 use Rattle.gr_journal.specs.Lines.{is_among, if_among, hosted_by, brokers_named, process_form, quiet_form, came_form, datagram_words, datagram_form, say_form, bytes_form, offer_words, offer_form, group_form, form_of_words, form_of, rising, taken_of, Reading, closed, with_form, with_line, journals_from, journals_of}
-use Rattle.gr_audit.specs.Coming.{most_bytes, ComesTo, AllComeTo, AllCome}
+use Rattle.gr_audit.specs.Coming.{ComesTo, AllComeTo, AllCome}
 
 -- A form names a broker of its process, and a moment that there is
 
@@ -134,7 +135,7 @@ form_fits t hosted (word ∷ words) =
 abbrev Good : TopologyView → List ℕ → Arrival → Type 0
 Good t hosted (Quiet moment) = moment ≤ MAX_NUMBER
 Good t hosted (Datagram b moment bytes) =
-    (is_among hosted b ≡ true) × ((b < length t.brokers) × ((moment ≤ MAX_NUMBER) × (length bytes ≤ most_bytes)))
+    (is_among hosted b ≡ true) × ((b < length t.brokers) × ((moment ≤ MAX_NUMBER) × (length bytes ≤ MAX_DATAGRAM)))
 
 short : {X : Type 0} (n : ℕ) (xs : List X) → length (take n xs) ≤ n
 short zero [] = omega arith
@@ -144,7 +145,7 @@ short (suc n) (x ∷ xs) = let e = short n xs in omega (arith, e)
 
 taken_good : (t : TopologyView) (hosted : List ℕ) (a : Arrival) → IsTo t hosted a → Good t hosted (taken_of a)
 taken_good t hosted (Quiet moment) h = h
-taken_good t hosted (Datagram b moment bytes) h = (h.0, (h.1.0, (h.1.1, short most_bytes bytes)))
+taken_good t hosted (Datagram b moment bytes) h = (h.0, (h.1.0, (h.1.1, short MAX_DATAGRAM bytes)))
 
 -- a broker of a process is one of its brokers in rising order
 

@@ -1,5 +1,6 @@
 -- What is said of the journals of several processes
-use Rattle.std.specs.Prelude.{ℕ, Bool, true, false, if◌then◌else◌, List, [], ◌∷◌, ◌++◌, map, Option, Some, None, is_some, Result, Ok, Err}
+use Rattle.std.specs.Prelude.{ℕ, Bool, true, false, if◌then◌else◌, List, [], ◌∷◌, ◌++◌, map, Option, Some, None}
+use Rattle.std.specs.Prelude.{is_some, Result, Ok, Err}
 use Rattle.std.specs.List.{list_any}
 use Rattle.gr_frame.specs.Decode.{frame_decoded}
 use Rattle.gr_topo.specs.Topology.{TopologyView}

@@ -1,6 +1,7 @@
 //! What a process tells, compared with a journal as it is told.
 
-ghost use Rattle.std.specs.Prelude.{◌≡◌, ◌+◌, ◌<◌, ◌≤◌, ◌++◌, [], length, take, drop, Some, None, IsSome, slice_index, IfOk, OnErr};
+ghost use Rattle.std.specs.Prelude.{◌≡◌, ◌+◌, ◌<◌, ◌≤◌, ◌++◌, [], length, take, drop, Some, None};
+ghost use Rattle.std.specs.Prelude.{IsSome, slice_index, IfOk, OnErr};
 ghost use Rattle.gr_out.specs.Bytes.{with_more};
 ghost use Rattle.gr_out.specs.Faults.{Counts};
 ghost use Rattle.gr_audit.specs.Compared.{told_of, text_of, ends_in, wrong_in, IsOther};
@@ -116,7 +117,8 @@ impl<'a> Sink for Comparison<'a> {
     fn write(&mut self, bytes: &[u8]) -> Result<usize, Failed>
         ensures count { IfOk result (λ n. n ≤ length bytes.now) }
         ensures some { IfOk result (λ n. 0 < length bytes.now → 0 < n) }
-        ensures bytes { IfOk result (λ n. Some (told_of self.new) ≡ with_more (Some (told_of self.old)) (take n bytes.now)) }
+        ensures bytes { IfOk result (λ n.
+            Some (told_of self.new) ≡ with_more (Some (told_of self.old)) (take n bytes.now)) }
         ensures err { OnErr result (Some (told_of self.new) ≡ Some (told_of self.old)) }
         ensures cause { Counts self.old.faults self.new.faults result }
         ensures wrong { OnErr result (IsSome self.new.wrong) }

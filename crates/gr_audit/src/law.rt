@@ -4,8 +4,8 @@
 ghost use Rattle.gr_audit.specs.Joint.{GoesFurthest, JointIsExact, StaysIsExact};
 ghost use Rattle.gr_audit.specs.Verdict.{WrongIsExact};
 
-/// No order of groups goes further than the joint order, in any journal; so all groups go in it exactly where they do in
-/// some order, and exactly then no arrival stays.
+/// No order of groups goes further than the joint order, in any journal; so all groups go in it exactly where they do
+/// in some order, and exactly then no arrival stays.
 pub fn stuck_is_exact()
     ensures furthest { GoesFurthest }
     ensures exact { JointIsExact }

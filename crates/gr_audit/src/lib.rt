@@ -1,9 +1,9 @@
 //! The audit of the journals of several processes.
 //!
-//! `audit` says whether journals are one honest run of brokers that behave as a `Machine` says: exactly what `audited` of
-//! `specs/Audited.antt` says of their bytes. `Comparison` compares what a process tells with its journal, and `Links`
-//! notes the groups of journals, and says which arrival stays where every group that can go has gone, in the joint order
-//! (`stays` in `specs/Joint.antt`). `read_scenario` reads what stands before journals.
+//! `audit` says whether journals are one honest run of brokers that behave as a `Machine` says: exactly what `audited`
+//! of `specs/Audited.antt` says of their bytes. `Comparison` compares what a process tells with its journal, and
+//! `Links` notes the groups of journals, and says which arrival stays where every group that can go has gone, in the
+//! joint order (`stays` in `specs/Joint.antt`). `read_scenario` reads what stands before journals.
 #![tactic(auto)]
 
 mod asked;

@@ -1,0 +1,10 @@
+pub mod Beside
+pub mod Bytes
+pub mod Calls
+pub mod Coming
+pub mod Honest
+pub mod Numbering
+pub mod Parts
+pub mod Running
+pub mod Texts
+pub mod Yes
