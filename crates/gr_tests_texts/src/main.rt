@@ -1,9 +1,10 @@
 //! What the public calls of events, filters, matching, covers, edges, one order, trees, topologies, schedules,
-//! scenarios and match texts answer, as a table: each row of standard input names a call and its arguments, and is
-//! printed again with the answers below it. The files `stdin` and `stdout` in this crate's folder are the rows that
-//! are tried, and what they have to answer.
+//! scenarios, match texts and journals answer, as a table: each row of standard input names a call and its arguments,
+//! and is printed again with the answers below it. The files `stdin` and `stdout` in this crate's folder are the rows
+//! that are tried, and what they have to answer.
 #![tactic(auto)]
 
+mod audits;
 mod cover_texts;
 mod covers;
 mod edges;
@@ -55,6 +56,7 @@ fn call(alloc: Global, row: &str, page: &mut Page) -> Result<(), Stop> {
         "scenario" => scenarios::answer(alloc, rest, page),
         "match-text" => match_texts::answer(alloc, rest, page),
         "cover-text" => cover_texts::answer(alloc, rest, page),
+        "audit" => audits::answer(alloc, rest, page),
         _ => Err(Stop::NoRow),
     }
 }
