@@ -92,7 +92,7 @@ class Chart:
         said = ['publisher ' + name for name, at in t.hosts.items() if at == broker]
         for name, at in t.places.items():
             if at == broker:
-                one = ', one list' if name in t.totals else ''
+                one = ', late' * (name in t.lates) + ', one list' * (name in t.totals)
                 said.append('subscriber ' + name + one + (': ' + t.filters[name] if name in t.filters else ''))
         return said if len(said) <= 5 else said[:4] + ['and %d more' % (len(said) - 4)]
 

@@ -4,7 +4,7 @@ import re
 import tomllib
 from collections import namedtuple
 
-Topology = namedtuple('Topology', 'brokers hosts places filters totals up')
+Topology = namedtuple('Topology', 'brokers hosts places filters lates totals up')
 Step = namedtuple('Step', 'number file_line word args text')
 Line = namedtuple('Line', 'number word args text')
 
@@ -14,12 +14,13 @@ NAME = re.compile(r'[A-Za-z0-9_.-]{1,64}\Z')
 NUMBER = re.compile(r'[0-9]{1,19}\Z')
 # The words of steps and of lines. P, S and B are names of publishers, subscribers and brokers, n is a number, and * is
 # the rest.
-STEPS = ('clock n', 'publish P n *', 'wake B', 'deliver n', 'crash B', 'sweep', 'show', 'bytes n')
+STEPS = ('clock n', 'publish P n *', 'wake B', 'deliver n', 'crash B', 'join S P', 'sweep', 'show', 'bytes n')
 LINES = ('logged P n n', 'already P n', 'gap P n next n', 'exhausted P n', 'kept P n n', 'lost P n n', 'mark P n',
-         'cut P n', 'opened P last n settled n cut n', 'got S P n *', 'horizon S P n', 'ordered S P n *',
-         'sent n B B know P *', 'sent n B B want P *', 'sent n B B expect P n', 'crashed B', 'swept n',
-         'refused line n hosts-subscriber B', 'refused line n no-frame n of n', 'refused line n clock-range n',
-         'frames n', 'log P last n settled n cut n kept n', 'doubt B P n', 'bytes n *', 'dropped B *', 'damaged P n')
+         'cut P n', 'joined S P n', 'already-joined S P', 'exhausted-join S P', 'opened P last n settled n cut n',
+         'got S P n *', 'horizon S P n', 'ordered S P n *', 'sent n B B know P *', 'sent n B B want P *',
+         'sent n B B expect P n', 'crashed B', 'swept n', 'refused line n hosts-subscriber B',
+         'refused line n no-frame n of n', 'refused line n clock-range n', 'frames n',
+         'log P last n settled n cut n kept n', 'doubt B P n', 'bytes n *', 'dropped B *', 'damaged P n')
 
 
 class Refused(Exception):
@@ -90,9 +91,10 @@ def read_topology(path, text):
     hosts = named_at(path, text, checked(path, text, table, 'publisher', list), brokers, 'publisher')
     places = named_at(path, text, subscribers, brokers, 'subscriber')
     filters = {one['name']: str(one['filter']) for one in subscribers if 'filter' in one}
-    totals = [one['name'] for one in subscribers if one.get('total') is True]
+    lates, totals = ([one['name'] for one in subscribers if one.get(key) is True] for key in ('late', 'total'))
     ups = {host: ways_up(path, text, brokers, links, host) for host in [brokers[0], *hosts.values()]}
-    return Topology(brokers, hosts, places, filters, totals, {name: ups[host] for name, host in hosts.items()})
+    up = {name: ups[host] for name, host in hosts.items()}
+    return Topology(brokers, hosts, places, filters, lates, totals, up)
 
 
 def fields(shape, text, topology):
@@ -139,13 +141,18 @@ def read_scenario(path, text):
     return topology, steps, re.split(r'(?<=\.)\s', ' '.join(comment))[0]
 
 
+def runs_of(text):
+    """The runs of a frame, behind the number of its joins."""
+    return re.sub('^joins [0-9]{1,2} ', '', text).split()
+
+
 def read_report(path, text, topology):
     """The lines of a report."""
     lines = []
     for number, line in enumerate(text.split('\n')[:-1] if text.endswith('\n') else text.split('\n'), 1):
         found = [(shape, fields(shape, line, topology)) for shape in LINES]
         shape, args = next((one for one in found if one[1] is not None), ('', None))
-        runs = args[-1].split() if shape.startswith('sent') and shape.endswith('*') and args else []
+        runs = runs_of(args[-1]) if shape.startswith('sent') and shape.endswith('*') and args else []
         if args is None or any(not re.match(r'[SDFCA][0-9]{1,19}-[0-9]{1,19}\Z', run) for run in runs):
             raise Refused(path, number, 'no line of a report on these brokers: ' + line[:60])
         word = shape.split()[0]

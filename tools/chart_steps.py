@@ -1,5 +1,5 @@
 """Gives each line of a report to the step that told it, for tools/chart, and so finds the rows of the chart."""
-from chart_read import Refused
+from chart_read import Refused, runs_of
 
 
 class Frame:
@@ -7,7 +7,7 @@ class Frame:
 
     def __init__(self, line, row):
         self.number, self.sender, self.receiver, self.publisher, body, self.kind = line.args
-        self.ranges = [(1, body)] if self.kind == 'expect' else [ticks(run) for run in body.split()]
+        self.ranges = [(1, body)] if self.kind == 'expect' else [ticks(run) for run in runs_of(body)]
         self.body, self.text, self.row, self.arrivals = body, line.text, row, []
         self.label = line.text.split(' ', 1)[1].replace(' %s %s ' % (self.sender, self.receiver), ' ', 1)
 
@@ -72,8 +72,8 @@ class Run:
         self.lists = {name: OneList(topology.hosts) for name in topology.totals}
         self.step, self.taken, self.before, self.fresh = None, [], {}, {}
         self.rules = {'clock': lambda line: False, 'publish': self.of_publish, 'deliver': self.of_deliver,
-                      'wake': self.of_wake, 'crash': self.of_crash, 'sweep': self.of_sweep, 'show': self.of_show,
-                      'bytes': self.of_bytes}
+                      'wake': self.of_wake, 'crash': self.of_crash, 'join': self.of_join, 'sweep': self.of_sweep,
+                      'show': self.of_show, 'bytes': self.of_bytes}
 
     def carry_out(self, steps, lines):
         at = 0
@@ -82,7 +82,7 @@ class Run:
             while at < len(lines) and self.fits(lines[at]):
                 self.take(lines[at])
                 at += 1
-            tells = step.word in ('publish', 'crash', 'sweep', 'show', 'bytes')
+            tells = step.word in ('publish', 'join', 'crash', 'sweep', 'show', 'bytes')
             if not self.taken and (tells or step.word == 'deliver' and step.args[0] not in self.frames):
                 wanted = 'here should stand what line %d of %s tells' % (step.file_line, self.source)
                 raise Refused(self.report, at + 1, wanted)
@@ -155,6 +155,12 @@ class Run:
             return line.word in ('kept', 'lost', 'opened') and self.topology.hosts[line.args[0]] == host
         return self.taken[0].word == 'logged' and self.learned(line, host, publisher)
 
+    def of_join(self, line):
+        publisher = self.step.args[1]
+        if not self.taken:
+            return line.word in ('joined', 'already-joined', 'exhausted-join') and line.args[:2] == self.step.args
+        return self.taken[0].word == 'joined' and self.learned(line, self.topology.hosts[publisher], publisher)
+
     def of_deliver(self, line):
         frame = self.frames.get(self.step.args[0])
         if frame is None:
@@ -208,6 +214,8 @@ class Run:
             return line.args[0]
         if line.word == 'sent':
             return line.args[1]
+        if line.word in ('joined', 'already-joined', 'exhausted-join'):
+            return self.topology.hosts[line.args[1]]
         return None if line.word in ('refused', 'frames', 'bytes', 'swept') else self.topology.hosts[line.args[0]]
 
     def take(self, line):
@@ -219,9 +227,9 @@ class Run:
         row.kind, row.broker, row.title = line.word, broker, line.text
         row.text, row.left = (line.text, row.left) if broker else ('', line.text)
         self.taken.append(line)
-        if line.word in ('logged', 'mark'):
-            ranges = [(self.horizon(broker, line.args[0]) + 1, line.args[-1])]
-            self.learn(broker, line.args[0], ranges)
+        if line.word in ('logged', 'joined', 'mark'):
+            publisher = line.args[1 if line.word == 'joined' else 0]
+            self.learn(broker, publisher, [(self.horizon(broker, publisher) + 1, line.args[-1])])
         elif line.word == 'crashed':
             self.known = {place: known for place, known in self.known.items() if place[0] != broker}
         elif line.word == 'opened' and line.args[2]:

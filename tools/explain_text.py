@@ -12,7 +12,7 @@ NAMES = 'a name has 1 to 64 letters, digits, `_`, `.` and `-`'
 MOST_BYTES, MOST_LINES, MOST_NUMBER = 4_194_304, 100_000, 2**62
 # What stands behind the word of each step.
 STEPS = {'clock': ['moment'], 'publish': ['publisher', 'number', 'event'], 'wake': ['broker'], 'deliver': ['frame'],
-         'crash': ['broker'], 'sweep': [], 'show': [], 'bytes': ['frame']}
+         'crash': ['broker'], 'join': ['subscriber', 'publisher'], 'sweep': [], 'show': [], 'bytes': ['frame']}
 RANGES = {'moment': (0, MOST_NUMBER), 'number': (1, MOST_NUMBER), 'frame': (0, MOST_NUMBER), 'call': (1, 4),
           'image': (0, 255)}
 
@@ -173,8 +173,8 @@ def expected_hint(before, rest):
 # Steps
 
 
-def step_fault(line, brokers, publishers, why):
-    """What is wrong with a line of a schedule: its column, a sentence and a hint."""
+def step_fault(line, names, why):
+    """What is wrong with a line of a schedule, with the names of each kind: its column, a sentence and a hint."""
     given = words_in(line)
     column, word = given[0]
     if word not in STEPS:
@@ -189,7 +189,7 @@ def step_fault(line, brokers, publishers, why):
             return event_fault(line, column, why or 'not-json')
         if kind == 'event':
             wanted += ['call', 'word pick', 'image', 'event']
-        found = part_fault(kind, part, brokers, publishers)
+        found = part_fault(kind, part, names)
         if found:
             return column, *found
         at += 1
@@ -205,7 +205,7 @@ def shape(word):
     return 'it is written `%s`' % ' '.join([word, *('N' if it in RANGES else it.upper() for it in STEPS[word])])
 
 
-def part_fault(kind, part, brokers, publishers):
+def part_fault(kind, part, names):
     """What is wrong with a word of a step, a sentence and a hint; None where nothing is."""
     if kind in RANGES:
         least, most = RANGES[kind]
@@ -213,11 +213,10 @@ def part_fault(kind, part, brokers, publishers):
             return 'the %s is not a number' % kind, 'a number is digits alone, with no sign, point or blank'
         if not least <= int(part) <= most:
             return 'the %s is out of range' % kind, 'it is %d to %s' % (least, most if most < 256 else '2^62')
-    if kind in ('broker', 'publisher'):
-        known = brokers if kind == 'broker' else publishers
-        if part not in known:
-            hint = nearest(part, known) or 'the %ss are %s' % (kind, listed(known) or 'none')
-            return 'there is no %s `%s`' % (kind, part), hint
+    if kind in names and part not in names[kind]:
+        called = 'late subscriber' if kind == 'subscriber' else kind
+        hint = nearest(part, names[kind]) or 'the %ss are %s' % (called, listed(names[kind]) or 'none')
+        return 'there is no %s `%s`' % (called, part), hint
     if kind == 'word pick' and part != 'pick':
         return 'the word `pick` is missing', 'a stop is written `stop CALL pick IMAGE`'
     return None

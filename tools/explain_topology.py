@@ -63,6 +63,10 @@ class Topology:
         """The names of the publishers or of the subscribers."""
         return [it['name'] for it in self.tables(kind) if isinstance(it.get('name'), str)]
 
+    def late_names(self):
+        """The names of the late subscribers."""
+        return [it['name'] for it in self.tables('subscriber') if it.get('late') is True]
+
     def key(self, table, index, name):
         """The line and column of a key, or of the head of its table."""
         found = self.places.get((table, index, name))
@@ -258,15 +262,9 @@ def too_many(part, lines, what):
     return Fault(*place, 'a topology has at most ' + LIMITS.get(what, 'so many'), '')
 
 
-def not_built(part, lines):
-    """A late subscriber, which no run takes yet."""
-    index = next(at for at, it in enumerate(part.tables('subscriber')) if it.get('late'))
-    return Fault(*part.key('subscriber', index, 'late'), 'no run takes late subscribers yet', '')
-
-
 FAULTS = {'not-toml': not_toml, 'bad-key': bad_key, 'bad-type': bad_type, 'twice': twice, 'unknown': unknown,
           'not-tree': not_tree, 'bad-filter': bad_filter, 'too-many': too_many, 'bad-address': bad_address,
-          'missing': missing, 'bad-name': bad_name, 'bad-range': bad_range, 'not-built': not_built}
+          'missing': missing, 'bad-name': bad_name, 'bad-range': bad_range}
 
 
 def topology_fault(text, word, about):
