@@ -22,7 +22,7 @@ use Rattle.gr_event.specs.Gives.{◌>>=◌}
 use Rattle.gr_event.specs.Decode.{byte_at, field_at, text_at, risen_at, name_of_length, name_at, text_of_length, truth_of, integer_at, text_value_at, truth_at, value_of_kind, value_at, pairs_at, pairs_of_count, event_decoded}
 use Rattle.gr_event.proofs.Told.{only_its_bytes}
 use Rattle.gr_publog.specs.Text.{AreBytes}
-use Rattle.gr_publog.proofs.Numbers.{bytes_before, bytes_from, eight_fits}
+use Rattle.gr_publog.proofs.Bytes.{bytes_before, bytes_from, eight_fits}
 use Rattle.gr_publog.proofs.Reading.{length-event}
 
 -- Steps of a reading that succeeded

@@ -3,7 +3,7 @@ use Rattle.std.proofs.Common.{◌≡◌, ℕ, Bool, List, [], ◌∷◌, ◌++�
 use Rattle.gr_out.specs.declared.disk.Fate.{Fate}
 use Rattle.gr_out.specs.declared.disk.Fate.TheVariants.{Done, Failed, Broken, Lost}
 use Rattle.gr_out.specs.Lane.{Lane, Call, Write, Sync, FailedWrite, fate_of, with_call, after_call, with_room}
-use Rattle.gr_publog.specs.Calls.{GoesOn}
+use Rattle.gr_publog.specs.Steps.{GoesOn}
 
 -- a lane that is as it was
 pub goes_on_same : (l l' : Lane) → l' ≡ l → GoesOn l l'

@@ -10,7 +10,7 @@ use Rattle.gr_out.specs.Lane.{Lane, Call, Write, Sync, content, read_after, pick
 use Rattle.gr_out.proofs.Images.{one_garbled, image_left}
 use Rattle.gr_publog.specs.Crash.{behind_gate}
 use Rattle.gr_publog.proofs.Moments.{length-over}
-use Rattle.gr_publog.specs.Kept.{Broke, picked_gate, StoppedImage}
+use Rattle.gr_publog.specs.Crash.{Broke, picked_gate, StoppedImage}
 
 -- How the stop goes on
 

@@ -1,111 +1,88 @@
--- What a call on a log does: to its lane, to the counts of its disk, and to what is kept in memory
-use Rattle.std.specs.Prelude.{◌≡◌, ◌≢◌, ◌⊎◌, ℕ, ◌+◌, ◌≤◌, nat_le, if◌then◌else◌, true, false, List, [], ◌∷◌, ◌++◌}
-use Rattle.std.specs.Prelude.{length, Option, Some, None, Result, Ok, Err, IsErr, IsErrOf, IsSome, OnOk, IfOk}
+-- What a call on a log does: to its two lanes, to the counts of its disk, and to what is kept in memory
+use Rattle.std.specs.Prelude.{◌≡◌, ◌≢◌, ◌⊎◌, ℕ, suc, ◌-◌, ◌≤◌, Bool, true, false, not, if◌then◌else◌, List, ◌∷◌, []}
+use Rattle.std.specs.Prelude.{◌++◌, Option, Some, None, Result, Ok, Err, IsErr, IsErrOf, IsSome, OnOk}
 use Rattle.gr_out.specs.declared.disk.Stop.TheVariants.{Unset, After}
 use Rattle.gr_out.specs.Faults.{Rose}
-use Rattle.gr_out.specs.Lane.{Lane, Call, Write, Cut, Sync, content, moment, crash_image, has_stopped, MayLeave}
-use Rattle.gr_out.specs.Lane.{LeftSince}
+use Rattle.gr_out.specs.Lane.{Call, moment, crash_image, MayLeave, LeftSince}
 use Rattle.gr_publog.specs.declared.record.Record.{Record}
+use Rattle.gr_publog.specs.declared.record.Record.TheVariants.{Cut}
 use Rattle.gr_publog.specs.declared.record.LogFault.{LogFault}
 use Rattle.gr_publog.specs.declared.record.LogFault.TheVariants as fault
-use Rattle.gr_publog.specs.Text.{header, front_text, record_bytes, log_text}
-use Rattle.gr_publog.specs.Crash.{LogView, Stands, BeforeOrAfter, EitherRose, OpensAs}
-use Rattle.gr_publog.specs.Kept.{Broke, records_kept}
+use Rattle.gr_publog.specs.declared.head.Standing.TheVariants.{New}
+use Rattle.gr_publog.specs.State.{LogState, after_record}
+use Rattle.gr_publog.specs.Text.{record_bytes, standing_of}
+use Rattle.gr_publog.specs.Filled.{body_of}
+use Rattle.gr_publog.specs.Crash.{EitherRose, Broke, is_kept, NotFailed}
+use Rattle.gr_publog.specs.Steps.{append_calls, rewriting_calls, GoesOn}
+use Rattle.gr_publog.specs.Views.{LogView, Lanes, appended, reclaimed, present, other, LeftPair, ReadsAs, FoundAs, Stands}
 
 -- A record that is logged, or none
 
--- the records then
-abbrev pub records_with : List Record → Option Record → List Record
-records_with rs None = rs
-records_with rs (Some r) = rs ++ r ∷ []
+abbrev pub appended_if : Option Record → LogView → LogView
+appended_if None l = l
+appended_if (Some r) l = appended r l
 
--- bytes read as these records, or as these and the one that a call logs
-abbrev pub Reads : List ℕ → List Record → Option Record → List ℕ → Type 0
-Reads late rs None image = log_text late image ≡ Ok rs
-Reads late rs (Some r) image = BeforeOrAfter late rs r image
+abbrev pub state_if : Option Record → LogState → LogState
+state_if None s = s
+state_if (Some r) s = after_record s r
 
--- the records that are left where a stop broke a call that logs one: without it or with it, as the log keeps it
-abbrev pub records_left : List Record → Option Record → ℕ → ℕ → List Record
-records_left rs None call pick = rs
-records_left rs (Some r) call pick = records_kept rs r call pick
+-- what is left where a stop broke a call that logs one: without it or with it, as the log keeps it
+abbrev pub log_left : LogView → Option Record → ℕ → ℕ → LogView
+log_left l None call pick = l
+log_left l (Some r) call pick = if is_kept (l.size - 1) call pick then appended r l else l
 
--- The calls of the format, the latest first
+-- the calls that log a record behind the gate at a place, or none
+abbrev pub logging_calls : ℕ → Option Record → List Call → List Call
+logging_calls gate None calls = calls
+logging_calls gate (Some r) calls = append_calls gate (record_bytes r ++ 0 ∷ []) calls
 
--- those that put bytes behind a gate, and then open it
-abbrev pub append_calls : ℕ → List ℕ → List Call → List Call
-append_calls gate bytes calls = Sync ∷ (Write gate (1 ∷ []) ∷ (Sync ∷ (Write (gate + 1) bytes ∷ calls)))
+-- an image of the present lane, which is the second one or not, and one of the other stand for this log
+abbrev pub FoundInTurn : Bool → LogView → List ℕ → List ℕ → Type 0
+FoundInTurn second l image beside = FoundAs l (if second then beside else image) (if second then image else beside)
 
--- those that log a record behind these, or none
-abbrev pub logging_calls : List Record → Option Record → List Call → List Call
-logging_calls rs None calls = calls
-logging_calls rs (Some r) calls = append_calls (length (front_text rs)) (record_bytes r ++ 0 ∷ []) calls
-
--- those that open a lane that reads these bytes: one of at most 6 gets the text of an empty log
-abbrev pub opening_calls : List ℕ → List Call → List Call
-opening_calls bytes calls =
-    if nat_le (length bytes) 6 then Sync ∷ (Write 0 (header ++ 0 ∷ []) ∷ (Cut 0 ∷ (Sync ∷ calls))) else Sync ∷ calls
-
--- what it reads then
-abbrev pub opened_text : List ℕ → List ℕ
-opened_text bytes = if nat_le (length bytes) 6 then header ++ 0 ∷ [] else bytes
-
--- What each call does
-
--- What was called on a lane stays called: it read the same at first, and of its calls those before are the earliest.
-pub record GoesOn (before after : Lane) : Type 0 where
-  pub start : after.start ≡ before.start
-  pub more : List Call
-  pub calls : after.calls ≡ more ++ before.calls
-
--- a log that is not broken has its records in its lane
-abbrev pub IsReady : LogView → Lane → Type 0
-IsReady l lane = l.broken ≡ false → Stands lane l.late l.records
-
--- What a call that logs a record, or none, does to the lane of a log.
-pub record Appends {T : Type 0} (l : LogView) (logged : Option Record) (before after : Lane)
+-- What a call that logs a record, or none, does to the lanes of a log.
+pub record Appends {T : Type 0} (l : LogView) (logged : Option Record) (before after : Lanes)
     (result : Result T LogFault) : Type 0 where
-  -- after `Ok` a crash leaves the list with the record, and no call was made but those of the format
-  pub stands : l.broken ≡ false → OnOk result (Stands after l.late (records_with l.records logged))
-  pub calls : OnOk result (after.calls ≡ logging_calls l.records logged before.calls)
-  -- at every moment of the call a crash leaves the list before, or the list with the record
-  pub any_moment : l.broken ≡ false → (image : List ℕ) → LeftSince after (moment before) image
-      → Reads l.late l.records logged image
+  -- after `Ok` a crash leaves what the log then holds, and no call was made but those of the format
+  pub stands : l.broken ≡ false → OnOk result (Stands after (appended_if logged l))
+  pub calls : OnOk result ((present l after).calls ≡ logging_calls (l.size - 1) logged (present l before).calls)
+  -- the other lane is not called
+  pub aside : other l after ≡ other l before
+  pub on : GoesOn (present l before) (present l after)
+  -- at every moment of the call a crash leaves what was held before, or that with the record
+  pub any_moment : l.broken ≡ false → (a b : List ℕ) → LeftPair before after a b
+      → ReadsAs l.state a b ⊎ ReadsAs (state_if logged l.state) a b
+  -- and the present lane keeps its head
+  pub head : l.broken ≡ false → (image : List ℕ) → LeftSince (present l after) (moment (present l before)) image
+      → standing_of (not l.second) image ≡ Ok (New l.generation)
   -- an ordered stop at one of its calls lets no `Ok` through, and the call and the pick tell which of the two is left
-  pub breaks : IsSome logged → (call pick : ℕ) → before.stop ≡ After call pick → call ≤ 4 → IsErr result
-  pub kept : (call pick : ℕ) → Broke before after call pick
-      → log_text l.late (crash_image after) ≡ Ok (records_left l.records logged call pick)
+  pub breaks : IsSome logged → (call pick : ℕ) → (present l before).stop ≡ After call pick → call ≤ 4 → IsErr result
+  pub kept : l.broken ≡ false → (call pick : ℕ) → Broke (present l before) (present l after) call pick
+      → (beside : List ℕ) → MayLeave (other l before) beside
+      → FoundInTurn l.second (log_left l logged call pick) (crash_image (present l after)) beside
   -- want of memory comes before the first call, and the disk fails at one of the four
   pub untouched : IsErrOf result fault.Memory → after ≡ before
-  pub still : IsErrOf result fault.Memory → l.broken ≡ false → Stands after l.late l.records
-  pub few : IsErrOf result fault.Disk → 12 ≤ after.left
-  pub reserved : before.reserved ≡ true → after.reserved ≡ true
-  pub unset : before.stop ≡ Unset → after.stop ≡ Unset
+  pub few : IsErrOf result fault.Disk → 12 ≤ (present l after).left
+  pub reserved : (present l before).reserved ≡ true → (present l after).reserved ≡ true
+  pub unset : (present l before).stop ≡ Unset → (present l after).stop ≡ Unset
 
--- What an opening does to its lane, where these subscribers may join.
-pub record Opens (late : List ℕ) (before after : Lane) (result : Result LogView LogFault) : Type 0 where
-  -- it answers what the lane reads: the records, or the place of the first fault
-  pub gives : OpensAs result (log_text late (content before))
-  -- then a crash leaves these records; the lane reads as before, or as the text of an empty log, by the calls of the
-  -- format
-  pub stands : IfOk result (λ l. Stands after late l.records)
-  pub reads : OnOk result (content after ≡ opened_text (content before))
-  pub calls : OnOk result (after.calls ≡ opening_calls (content before) before.calls)
-  pub reserved : OnOk result (after.reserved ≡ true)
-  -- at every moment of the call a crash leaves what it might have left before, or what reads as before
-  pub any_moment : (image : List ℕ) → LeftSince after (moment before) image
-      → MayLeave before image ⊎ (log_text late image ≡ log_text late (content before))
-  pub unset : before.stop ≡ Unset → after.stop ≡ Unset
-
--- an answer other than that the disk failed
-abbrev pub IsNoFailure : LogFault → Type 0
-IsNoFailure fault.Memory = Unit {0}
-IsNoFailure fault.Disk = ⊥
-IsNoFailure (fault.Damaged at) = Unit {0}
-IsNoFailure fault.Reopen = Unit {0}
-
-abbrev pub NotFailed : {T : Type 0} → Result T LogFault → Type 0
-NotFailed (Ok x) = Unit {0}
-NotFailed (Err e) = IsNoFailure e
+-- What a reclaiming does to them.
+pub record Reclaims {T : Type 0} (l : LogView) (tick : ℕ) (before after : Lanes) (result : Result T LogFault)
+    : Type 0 where
+  pub stands : l.broken ≡ false → OnOk result (Stands after (reclaimed tick l))
+  pub calls : OnOk result ((other l after).calls
+      ≡ rewriting_calls l.aside (body_of (after_record l.state (Cut tick)) (suc l.generation)) (other l before).calls)
+  -- the present lane is not called
+  pub kept : present l after ≡ present l before
+  pub on : GoesOn (other l before) (other l after)
+  -- at every moment of the call a crash leaves what was held before, or that with the cut
+  pub any_moment : l.broken ≡ false → (a b : List ℕ) → LeftPair before after a b
+      → ReadsAs l.state a b ⊎ ReadsAs (after_record l.state (Cut tick)) a b
+  -- want of memory comes before the first call, and the disk fails at one of the eight
+  pub untouched : IsErrOf result fault.Memory → after ≡ before
+  pub few : IsErrOf result fault.Disk → 8 ≤ (other l after).left
+  pub reserved : (other l before).reserved ≡ true → (other l after).reserved ≡ true
+  pub unset : (other l before).stop ≡ Unset → (other l after).stop ≡ Unset
 
 -- How the two counts of a disk move in a call: of failures, and of calls that a stop broke. None ever falls, one has
 -- risen where the answer is that the disk failed, and neither has moved where it is anything else.
@@ -115,15 +92,15 @@ pub record Tally {T : Type 0} (faults stops faults' stops' : ℕ) (result : Resu
   pub rose : IsErrOf result fault.Disk → EitherRose faults faults' stops stops'
   pub same : NotFailed result → (faults' ≡ faults) × (stops' ≡ stops)
 
--- Why a call answers that the disk failed: the lane was stopped, or the count of failures rose. No call of a faultless
+-- Why a call answers that the disk failed: a lane was stopped, or the count of failures rose. No call of a faultless
 -- disk fails but by a stop.
-pub record Causes {T : Type 0} (faultless : Type 0) (after : Lane) (faults faults' : ℕ)
+pub record Causes {T : Type 0} (faultless : Type 0) (stopped : Bool) (faults faults' : ℕ)
     (result : Result T LogFault) : Type 0 where
-  pub why : IsErrOf result fault.Disk → (has_stopped after.stop ≡ true) ⊎ Rose faults faults'
-  pub by_stop : faultless → IsErrOf result fault.Disk → has_stopped after.stop ≡ true
+  pub why : IsErrOf result fault.Disk → (stopped ≡ true) ⊎ Rose faults faults'
+  pub by_stop : faultless → IsErrOf result fault.Disk → stopped ≡ true
 
 -- What a call leaves in memory, by its answer: what it has logged, what there was before, or what is broken and has to
--- be opened again. It never answers that the lane is damaged.
+-- be opened again. It never answers that the lanes are damaged.
 pub record Leaves {V T : Type 0} (before logged broken after : V) (result : Result T LogFault) : Type 0 where
   pub ok : OnOk result (after ≡ logged)
   pub memory : IsErrOf result fault.Memory → after ≡ before

@@ -1,11 +1,11 @@
--- What a crash leaves while a record is appended
-use Rattle.std.specs.Prelude.{◌≡◌, ◌⊎◌, ℕ, ◌+◌, Bool, true, List, [], ◌∷◌, ◌++◌, length, Result, Ok, Err, IsErrOf}
-use Rattle.gr_out.specs.Lane.{Lane, content, over, Torn, LeavesOnly}
+-- What a crash leaves while a record is appended, and the counts of a disk
+use Rattle.std.specs.Prelude.{◌≡◌, ◌⊎◌, ℕ, ◌+◌, ◌*◌, ◌%◌, ◌≤◌, Bool, true, false, ◌&&◌, ◌||◌, nat_eq, nat_lt, nat_le, if◌then◌else◌, List, []}
+use Rattle.std.specs.Prelude.{◌∷◌, length, Result, Ok, Err, IsErrOf}
+use Rattle.gr_out.specs.declared.disk.Stop.TheVariants.{After}
+use Rattle.gr_out.specs.Lane.{Lane, has_stopped, over, Torn}
 use Rattle.gr_out.specs.Faults.{Rose}
 use Rattle.gr_publog.specs.declared.record.LogFault.{LogFault}
 use Rattle.gr_publog.specs.declared.record.LogFault.TheVariants as fault
-use Rattle.gr_publog.specs.declared.record.Record.{Record}
-use Rattle.gr_publog.specs.Text.{IsSpelled, log_text}
 
 -- bytes with others behind a gate, and the gate open
 abbrev pub behind_gate : ℕ → List ℕ → List ℕ → List ℕ
@@ -19,41 +19,29 @@ abbrev pub IsBetween : ℕ → List ℕ → List ℕ → List ℕ → Type 0
 IsBetween gate bytes old image = Torn (gate + 1) (length bytes) old image
     ⊎ Torn gate 1 (behind_gate gate bytes old) image
 
+-- the call with this number was to break, with this pick, and a stop has broken one
+pub record Broke (before after : Lane) (call pick : ℕ) : Type 0 where
+  pub ordered : before.stop ≡ After call pick
+  pub stopped : has_stopped after.stop ≡ true
+
+-- an append that was stopped at a call is kept by the picked image, where its gate stood at this place
+abbrev pub is_kept : ℕ → ℕ → ℕ → Bool
+is_kept gate call pick = nat_le 3 call && (nat_eq pick 1 || (nat_lt 1 pick && nat_eq ((gate * pick) % 256) 1))
+
+-- the picked image of a lane whose gate was to open and was not synced
+abbrev pub picked_gate : ℕ → ℕ → List ℕ → List ℕ
+picked_gate pick gate old =
+    if nat_eq pick 0 then old
+    else (if nat_eq pick 1 then over gate (1 ∷ []) old else over gate ((gate * pick) % 256 ∷ []) old)
+
+-- the image that is picked where the call with this number broke: up to the second call the gate was not touched
+pub record StoppedImage (gate : ℕ) (bytes old : List ℕ) (call pick : ℕ) (image : List ℕ) : Type 0 where
+  pub early : call ≤ 2 → Torn (gate + 1) (length bytes) old image
+  pub late : 3 ≤ call → image ≡ picked_gate pick gate (behind_gate gate bytes old)
+
 -- one of a disk's two counts rose: of failures, or of calls that a stop broke
 abbrev pub EitherRose : ℕ → ℕ → ℕ → ℕ → Type 0
 EitherRose faults faults' stops stops' = Rose faults faults' ⊎ Rose stops stops'
-
--- a lane has the text of these records, where these subscribers may join, and a crash leaves nothing else
-pub record Stands (l : Lane) (late : List ℕ) (rs : List Record) : Type 0 where
-  pub text : IsSpelled late (content l) rs
-  pub only : LeavesOnly l (content l)
-
--- the list before, or with the record
-abbrev pub BeforeOrAfter : List ℕ → List Record → Record → List ℕ → Type 0
-BeforeOrAfter late rs r image = (log_text late image ≡ Ok rs) ⊎ (log_text late image ≡ Ok (rs ++ r ∷ []))
-
--- What a log is seen as: its lane, its records, whether the disk has failed it, and the subscribers that may join.
-pub record LogView : Type 0 where
-  pub lane : ℕ
-  pub records : List Record
-  pub broken : Bool
-  pub late : List ℕ
-
--- with one more record
-abbrev pub with_record : Record → LogView → LogView
-with_record r l = record { lane = l.lane; records = l.records ++ r ∷ []; broken = l.broken; late = l.late }
-
--- no more to be used
-abbrev pub failed : LogView → LogView
-failed l = record { lane = l.lane; records = l.records; broken = true; late = l.late }
-
--- a log is opened as what its lane reads: its records, or the place of the first fault
-abbrev pub OpensAs : Result LogView LogFault → Result (List Record) ℕ → Type 0
-OpensAs (Ok l) read = read ≡ Ok l.records
-OpensAs (Err fault.Memory) read = Unit {0}
-OpensAs (Err fault.Disk) read = Unit {0}
-OpensAs (Err (fault.Damaged at)) read = read ≡ Err at
-OpensAs (Err fault.Reopen) read = ⊥
 
 -- the call gave up for memory or for the disk
 abbrev pub GaveUp : {X : Type 0} → Result X LogFault → Type 0
@@ -66,3 +54,21 @@ GaveUp (Err fault.Reopen) = ⊥
 -- the disk is told only where one of its two counts rose
 abbrev pub DiskRose : {X : Type 0} → Result X LogFault → ℕ → ℕ → ℕ → ℕ → Type 0
 DiskRose result faults faults' stops stops' = IsErrOf result fault.Disk → EitherRose faults faults' stops stops'
+
+-- an answer other than that the disk failed
+abbrev pub IsNoFailure : LogFault → Type 0
+IsNoFailure fault.Memory = Unit {0}
+IsNoFailure fault.Disk = ⊥
+IsNoFailure (fault.Damaged at) = Unit {0}
+IsNoFailure fault.Reopen = Unit {0}
+
+-- whether it is that
+abbrev pub is_disk : LogFault → Bool
+is_disk fault.Memory = false
+is_disk fault.Disk = true
+is_disk (fault.Damaged at) = false
+is_disk fault.Reopen = false
+
+abbrev pub NotFailed : {T : Type 0} → Result T LogFault → Type 0
+NotFailed (Ok x) = Unit {0}
+NotFailed (Err e) = IsNoFailure e

@@ -1,6 +1,11 @@
 pub mod State
 pub mod Text
 pub mod Gives
+pub mod Lanes
+pub mod Rewrite
+pub mod Filled
 pub mod Crash
-pub mod Kept
+pub mod Steps
+pub mod Views
 pub mod Calls
+pub mod Opens

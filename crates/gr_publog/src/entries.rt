@@ -35,6 +35,13 @@ impl Entries {
         }
     }
 
+    /// The events with their ticks, the earliest first.
+    pub(crate) fn parts(&self) -> &VecDeque<Entry>
+        ensures { result.now.items ≡ self.now }
+    {
+        &self.entries
+    }
+
     /// How many there are.
     pub fn len(&self) -> usize
         ensures { result ≡ length self.now }
@@ -69,7 +76,7 @@ fn is_cut(entries: &VecDeque<Entry>, tick: u64) -> bool
 }
 
 /// Drops the entries up to a tick, which come first. It looks at one more than it drops.
-fn drop_upto(entries: &mut VecDeque<Entry>, tick: u64)
+pub(crate) fn drop_upto(entries: &mut VecDeque<Entry>, tick: u64)
     requires { EntriesRise 0 entries.old.items }
     ensures { entries.new.items ≡ filter (λ e. nat_lt tick e.tick) entries.old.items }
 {

@@ -1,24 +1,22 @@
-//! The text of a log, read.
+//! The text of a lane, read.
 
-ghost use Rattle.std.specs.Prelude.{◌≡◌, ◌+◌, ◌-◌, ◌≤◌, ◌<◌, ◌^◌, ◌==◌, ◌∷◌, ◌++◌, [], length, IfOk, MatchResult, Ok};
-ghost use Rattle.std.specs.Prelude.{Err, nat_le, true, drop};
-ghost use Rattle.std.specs.Int.{from_be_bytes, to_be_bytes, w16, w32, w64};
-ghost use Rattle.gr_event.specs.Event.{event_bytes};
-ghost use Rattle.gr_event.specs.Limits.{IsEvent};
+ghost use Rattle.std.specs.Prelude.{◌≡◌, ◌+◌, ◌-◌, ◌^◌, ◌≤◌, ◌<◌, ◌==◌, ◌&&◌, [], length, drop};
+ghost use Rattle.std.specs.Prelude.{IfOk, MatchResult, Ok, true, nat_le};
+ghost use Rattle.std.specs.Int.{w16, w32, w64};
+ghost use Rattle.gr_event.specs.Joins.{last_join_tick};
 ghost use Rattle.gr_event.specs.declared.limits.TheConstants.{MAX_JOINS};
-ghost use Rattle.gr_publog.specs.State.{may_settle, may_cut, may_enter, may_follow, IsSound, Follow, first_standing};
-ghost use Rattle.gr_publog.specs.State.{standing_of, live_events};
+ghost use Rattle.gr_publog.specs.State.{max_tick, may_settle, may_cut, may_enter, is_new, held_by};
+ghost use Rattle.gr_publog.specs.State.{empty_state, IsState};
 ghost use Rattle.gr_publog.specs.Text.{field_in, number_in, event_in, logged_in, mark_in, cut_in, join_in, record_in};
-ghost use Rattle.gr_publog.specs.Text.{records_in, record_bytes, blocks, front_text, header, header_fault, Closes};
-ghost use Rattle.gr_publog.specs.Text.{IsSpelled, log_text};
+ghost use Rattle.gr_publog.specs.Text.{records_in, is_generation, may_begin, joins_in, base_in, placed, placed_in};
 ghost use Rattle.gr_publog.specs.Gives.{Fails};
 
 use crate::entries::{Entries, note_record};
-use crate::history::History;
-use crate::record::{LogFault, Record};
-use crate::standing::Standing;
-use byteorder::{BigEndian, ByteOrder};
-use gr_event::{Event, EventFault, MAX_EVENT_BYTES};
+use crate::footing::{Footing, is_new};
+use crate::head::Standing;
+use crate::numbers::{are_bytes, eight, four, two};
+use crate::record::{Base, LogFault, MAX_TICK, Record, State};
+use gr_event::{Event, EventFault, Join, Joins, MAX_EVENT_BYTES, MAX_JOINS};
 use std::alloc::Global;
 use std::collections::VecDeque;
 
@@ -26,7 +24,6 @@ use std::collections::VecDeque;
 fn field_in(total: usize, len: usize, rest: &[u8]) -> Result<(&[u8], &[u8]), LogFault>
     ensures gives { let read = field_in total len rest.now in
         MatchResult result (λ x. read ≡ Ok (x.0.now, x.1.now)) (λ e. Fails e read) }
-    ensures parts { IfOk result (λ x. rest.now ≡ x.0.now ++ x.1.now) }
     ensures len { IfOk result (λ x. length x.0.now ≡ len) }
     ensures within { IfOk result (λ x. len + length x.1.now ≡ length rest.now) }
 {
@@ -45,52 +42,16 @@ fn place(total: usize, rest: &[u8]) -> u64
     (total - rest.len()) as u64
 }
 
-/// The number that eight bytes spell.
-#[tactic(auto, using(crate::proofs::Numbers::spells_eight))]
-fn eight(field: &[u8]) -> u64
-    requires { length field.now ≡ 8 }
-    ensures value { result ≡ from_be_bytes w64 field.now }
-    ensures spelled { to_be_bytes w64 result ≡ field.now }
-{
-    BigEndian::read_u64(field)
-}
-
-/// The number that four bytes spell.
-#[tactic(auto, using(crate::proofs::Numbers::spells_four))]
-fn four(field: &[u8]) -> u32
-    requires { length field.now ≡ 4 }
-    ensures value { result ≡ from_be_bytes w32 field.now }
-    ensures spelled { to_be_bytes w32 result ≡ field.now }
-{
-    BigEndian::read_u32(field)
-}
-
-/// The number that two bytes spell.
-#[tactic(auto, using(crate::proofs::Numbers::spells_two))]
-fn two(field: &[u8]) -> u16
-    requires { length field.now ≡ 2 }
-    ensures value { result ≡ from_be_bytes w16 field.now }
-    ensures spelled { to_be_bytes w16 result ≡ field.now }
-{
-    BigEndian::read_u16(field)
-}
-
 /// The tick of an Event, a Mark or a Join.
-fn settling_in<'a>(
-    total: usize,
-    standing: &Standing,
-    rest: &'a [u8],
-) -> Result<(u64, &'a [u8]), LogFault>
+fn settling_in<'a>(total: usize, state: &State, rest: &'a [u8]) -> Result<(u64, &'a [u8]), LogFault>
     requires { length rest.now ≤ total }
-    ensures gives { let read = number_in total 8 w64 (may_settle standing.now.state) rest.now in
+    ensures gives { let read = number_in total 8 w64 (may_settle state.now) rest.now in
         MatchResult result (λ x. read ≡ Ok (x.0, x.1.now)) (λ e. Fails e read) }
-    ensures may { IfOk result (λ x. may_settle standing.now.state x.0 ≡ true) }
-    ensures spelled { IfOk result (λ x. rest.now ≡ to_be_bytes w64 x.0 ++ x.1.now) }
     ensures within { IfOk result (λ x. 8 + length x.1.now ≡ length rest.now) }
 {
     let (field, left) = field_in(total, 8, rest)?;
     let tick = eight(field);
-    if !standing.may_settle(tick) {
+    if !state.may_settle(tick) {
         return Err(LogFault::Damaged {
             at: place(total, rest),
         });
@@ -99,21 +60,15 @@ fn settling_in<'a>(
 }
 
 /// The tick of a Cut.
-fn cutting_in<'a>(
-    total: usize,
-    standing: &Standing,
-    rest: &'a [u8],
-) -> Result<(u64, &'a [u8]), LogFault>
+fn cutting_in<'a>(total: usize, state: &State, rest: &'a [u8]) -> Result<(u64, &'a [u8]), LogFault>
     requires { length rest.now ≤ total }
-    ensures gives { let read = number_in total 8 w64 (may_cut standing.now.state) rest.now in
+    ensures gives { let read = number_in total 8 w64 (may_cut state.now) rest.now in
         MatchResult result (λ x. read ≡ Ok (x.0, x.1.now)) (λ e. Fails e read) }
-    ensures may { IfOk result (λ x. may_cut standing.now.state x.0 ≡ true) }
-    ensures spelled { IfOk result (λ x. rest.now ≡ to_be_bytes w64 x.0 ++ x.1.now) }
     ensures within { IfOk result (λ x. 8 + length x.1.now ≡ length rest.now) }
 {
     let (field, left) = field_in(total, 8, rest)?;
     let tick = eight(field);
-    if !standing.may_cut(tick) {
+    if !state.may_cut(tick) {
         return Err(LogFault::Damaged {
             at: place(total, rest),
         });
@@ -122,21 +77,15 @@ fn cutting_in<'a>(
 }
 
 /// The number of an Event.
-fn next_in<'a>(
-    total: usize,
-    standing: &Standing,
-    rest: &'a [u8],
-) -> Result<(u64, &'a [u8]), LogFault>
+fn next_in<'a>(total: usize, last: u64, rest: &'a [u8]) -> Result<(u64, &'a [u8]), LogFault>
     requires { length rest.now ≤ total }
-    ensures gives { let read = number_in total 8 w64 (λ n. n == standing.now.state.last + 1) rest.now in
+    ensures gives { let read = number_in total 8 w64 (λ x. x == last + 1) rest.now in
         MatchResult result (λ x. read ≡ Ok (x.0, x.1.now)) (λ e. Fails e read) }
-    ensures next { IfOk result (λ x. (x.0 == standing.now.state.last + 1) ≡ true) }
-    ensures spelled { IfOk result (λ x. rest.now ≡ to_be_bytes w64 x.0 ++ x.1.now) }
     ensures within { IfOk result (λ x. 8 + length x.1.now ≡ length rest.now) }
 {
     let (field, left) = field_in(total, 8, rest)?;
     let number = eight(field);
-    if !standing.is_next(number) {
+    if number == 0 || number - 1 != last {
         return Err(LogFault::Damaged {
             at: place(total, rest),
         });
@@ -147,19 +96,17 @@ fn next_in<'a>(
 /// The subscriber of a Join.
 fn entering_in<'a>(
     total: usize,
-    standing: &Standing,
+    footing: &Footing,
     rest: &'a [u8],
 ) -> Result<(u16, &'a [u8]), LogFault>
     requires { length rest.now ≤ total }
-    ensures gives { let read = number_in total 2 w16 (may_enter standing.now) rest.now in
+    ensures gives { let read = number_in total 2 w16 (may_enter footing.now) rest.now in
         MatchResult result (λ x. read ≡ Ok (x.0, x.1.now)) (λ e. Fails e read) }
-    ensures may { IfOk result (λ x. may_enter standing.now x.0 ≡ true) }
-    ensures spelled { IfOk result (λ x. rest.now ≡ to_be_bytes w16 x.0 ++ x.1.now) }
     ensures within { IfOk result (λ x. 2 + length x.1.now ≡ length rest.now) }
 {
     let (field, left) = field_in(total, 2, rest)?;
     let subscriber = two(field);
-    if !standing.may_enter(subscriber) {
+    if !footing.may_enter(subscriber) {
         return Err(LogFault::Damaged {
             at: place(total, rest),
         });
@@ -170,9 +117,8 @@ fn entering_in<'a>(
 /// The size of an event.
 fn size_in(total: usize, rest: &[u8]) -> Result<(usize, &[u8]), LogFault>
     requires { length rest.now ≤ total }
-    ensures gives { let read = number_in total 4 w32 (λ n. nat_le n MAX_EVENT_BYTES) rest.now in
+    ensures gives { let read = number_in total 4 w32 (λ x. nat_le x MAX_EVENT_BYTES) rest.now in
         MatchResult result (λ x. read ≡ Ok (x.0, x.1.now)) (λ e. Fails e read) }
-    ensures spelled { IfOk result (λ x. rest.now ≡ to_be_bytes w32 x.0 ++ x.1.now) }
     ensures within { IfOk result (λ x. 4 + length x.1.now ≡ length rest.now) }
 {
     let (field, left) = field_in(total, 4, rest)?;
@@ -196,17 +142,11 @@ fn event_in<'a>(
     requires { length rest.now ≤ total }
     ensures gives { let read = event_in total size rest.now in
         MatchResult result (λ x. read ≡ Ok (x.0, x.1.now)) (λ e. Fails e read) }
-    ensures spelled { IfOk result (λ x. rest.now ≡ event_bytes x.0 ++ x.1.now) }
-    ensures sized { IfOk result (λ x. length (event_bytes x.0) ≡ size) }
-    ensures event { IfOk result (λ x. IsEvent x.0) }
     ensures within { IfOk result (λ x. length x.1.now ≤ length rest.now) }
 {
     let (field, left) = field_in(total, size, rest)?;
     match Event::decode(alloc, field) {
-        Ok(event) => {
-            let _ = event.size();
-            Ok((event, left))
-        }
+        Ok(event) => Ok((event, left)),
         Err(EventFault::Memory) => Err(LogFault::Memory),
         Err(_) => Err(LogFault::Damaged {
             at: place(total, rest),
@@ -219,19 +159,16 @@ fn event_in<'a>(
 fn logged_in<'a>(
     alloc: Global,
     total: usize,
-    standing: &Standing,
+    state: &State,
     rest: &'a [u8],
 ) -> Result<(Record, &'a [u8]), LogFault>
     requires { length rest.now ≤ total }
-    ensures gives { let read = logged_in total standing.now.state rest.now in
+    ensures gives { let read = logged_in total state.now rest.now in
         MatchResult result (λ x. read ≡ Ok (x.0, x.1.now)) (λ e. Fails e read) }
-    ensures may { IfOk result (λ x. may_follow standing.now x.0 ≡ true) }
-    ensures sound { IfOk result (λ x. IsSound x.0) }
-    ensures spelled { IfOk result (λ x. 1 ∷ rest.now ≡ record_bytes x.0 ++ x.1.now) }
     ensures within { IfOk result (λ x. length x.1.now ≤ length rest.now) }
 {
-    let (tick, behind_tick) = settling_in(total, standing, rest)?;
-    let (number, behind_number) = next_in(total, standing, behind_tick)?;
+    let (tick, behind_tick) = settling_in(total, state, rest)?;
+    let (number, behind_number) = next_in(total, state.last, behind_tick)?;
     let (size, behind_size) = size_in(total, behind_number)?;
     let (event, left) = event_in(alloc, total, size, behind_size)?;
     Ok((
@@ -246,39 +183,25 @@ fn logged_in<'a>(
 
 /// A Mark behind its kind.
 #[tactic(auto, unfolding(crate::specs::Text::mark_in))]
-fn mark_in<'a>(
-    total: usize,
-    standing: &Standing,
-    rest: &'a [u8],
-) -> Result<(Record, &'a [u8]), LogFault>
+fn mark_in<'a>(total: usize, state: &State, rest: &'a [u8]) -> Result<(Record, &'a [u8]), LogFault>
     requires { length rest.now ≤ total }
-    ensures gives { let read = mark_in total standing.now.state rest.now in
+    ensures gives { let read = mark_in total state.now rest.now in
         MatchResult result (λ x. read ≡ Ok (x.0, x.1.now)) (λ e. Fails e read) }
-    ensures may { IfOk result (λ x. may_follow standing.now x.0 ≡ true) }
-    ensures sound { IfOk result (λ x. IsSound x.0) }
-    ensures spelled { IfOk result (λ x. 2 ∷ rest.now ≡ record_bytes x.0 ++ x.1.now) }
     ensures within { IfOk result (λ x. length x.1.now ≤ length rest.now) }
 {
-    let (tick, left) = settling_in(total, standing, rest)?;
+    let (tick, left) = settling_in(total, state, rest)?;
     Ok((Record::Mark { tick }, left))
 }
 
 /// A Cut behind its kind.
 #[tactic(auto, unfolding(crate::specs::Text::cut_in))]
-fn cut_in<'a>(
-    total: usize,
-    standing: &Standing,
-    rest: &'a [u8],
-) -> Result<(Record, &'a [u8]), LogFault>
+fn cut_in<'a>(total: usize, state: &State, rest: &'a [u8]) -> Result<(Record, &'a [u8]), LogFault>
     requires { length rest.now ≤ total }
-    ensures gives { let read = cut_in total standing.now.state rest.now in
+    ensures gives { let read = cut_in total state.now rest.now in
         MatchResult result (λ x. read ≡ Ok (x.0, x.1.now)) (λ e. Fails e read) }
-    ensures may { IfOk result (λ x. may_follow standing.now x.0 ≡ true) }
-    ensures sound { IfOk result (λ x. IsSound x.0) }
-    ensures spelled { IfOk result (λ x. 3 ∷ rest.now ≡ record_bytes x.0 ++ x.1.now) }
     ensures within { IfOk result (λ x. length x.1.now ≤ length rest.now) }
 {
-    let (tick, left) = cutting_in(total, standing, rest)?;
+    let (tick, left) = cutting_in(total, state, rest)?;
     Ok((Record::Cut { tick }, left))
 }
 
@@ -286,19 +209,16 @@ fn cut_in<'a>(
 #[tactic(auto, unfolding(crate::specs::Text::join_in))]
 fn join_in<'a>(
     total: usize,
-    standing: &Standing,
+    footing: &Footing,
     rest: &'a [u8],
 ) -> Result<(Record, &'a [u8]), LogFault>
     requires { length rest.now ≤ total }
-    ensures gives { let read = join_in total standing.now rest.now in
+    ensures gives { let read = join_in total footing.now rest.now in
         MatchResult result (λ x. read ≡ Ok (x.0, x.1.now)) (λ e. Fails e read) }
-    ensures may { IfOk result (λ x. may_follow standing.now x.0 ≡ true) }
-    ensures sound { IfOk result (λ x. IsSound x.0) }
-    ensures spelled { IfOk result (λ x. 4 ∷ rest.now ≡ record_bytes x.0 ++ x.1.now) }
     ensures within { IfOk result (λ x. length x.1.now ≤ length rest.now) }
 {
-    let (tick, behind_tick) = settling_in(total, standing, rest)?;
-    let (subscriber, left) = entering_in(total, standing, behind_tick)?;
+    let (tick, behind_tick) = settling_in(total, footing.state(), rest)?;
+    let (subscriber, left) = entering_in(total, footing, behind_tick)?;
     Ok((Record::Join { tick, subscriber }, left))
 }
 
@@ -307,71 +227,232 @@ fn join_in<'a>(
 fn record_in<'a>(
     alloc: Global,
     total: usize,
-    standing: &Standing,
+    footing: &Footing,
     rest: &'a [u8],
 ) -> Result<(Record, &'a [u8]), LogFault>
     requires { length rest.now ≤ total }
-    ensures gives { let read = record_in total standing.now rest.now in
+    ensures gives { let read = record_in total footing.now rest.now in
         MatchResult result (λ x. read ≡ Ok (x.0, x.1.now)) (λ e. Fails e read) }
-    ensures may { IfOk result (λ x. may_follow standing.now x.0 ≡ true) }
-    ensures sound { IfOk result (λ x. IsSound x.0) }
-    ensures spelled { IfOk result (λ x. rest.now ≡ record_bytes x.0 ++ x.1.now) }
     ensures within { IfOk result (λ x. length x.1.now < length rest.now) }
 {
     match rest {
         [] => Err(LogFault::Damaged { at: total as u64 }),
-        [1, behind @ ..] => logged_in(alloc, total, standing, behind),
-        [2, behind @ ..] => mark_in(total, standing, behind),
-        [3, behind @ ..] => cut_in(total, standing, behind),
-        [4, behind @ ..] => join_in(total, standing, behind),
+        [1, behind @ ..] => logged_in(alloc, total, footing.state(), behind),
+        [2, behind @ ..] => mark_in(total, footing.state(), behind),
+        [3, behind @ ..] => cut_in(total, footing.state(), behind),
+        [4, behind @ ..] => join_in(total, footing, behind),
         _ => Err(LogFault::Damaged {
             at: place(total, rest),
         }),
     }
 }
 
-/// The place of the first byte that differs from the header's five, or 5.
-fn header_fault(bytes: &[u8]) -> u64
-    ensures place { result ≡ header_fault 0 header bytes.now }
-    ensures spelled { result ≡ 5 → bytes.now ≡ header ++ drop 5 bytes.now }
+/// The generation of a lane.
+fn generation_in(total: usize, rest: &[u8]) -> Result<(u64, &[u8]), LogFault>
+    requires { length rest.now ≤ total }
+    ensures gives { let read = number_in total 8 w64 is_generation rest.now in
+        MatchResult result (λ x. read ≡ Ok (x.0, x.1.now)) (λ e. Fails e read) }
+    ensures within { IfOk result (λ x. 8 + length x.1.now ≡ length rest.now) }
 {
-    match bytes {
-        [b'G', b'L', b'O', b'G', 1, ..] => 5,
-        [b'G', b'L', b'O', b'G', ..] => 4,
-        [b'G', b'L', b'O', ..] => 3,
-        [b'G', b'L', ..] => 2,
-        [b'G', ..] => 1,
-        _ => 0,
+    let (field, left) = field_in(total, 8, rest)?;
+    let generation = eight(field);
+    if generation < 1 || generation > MAX_TICK {
+        return Err(LogFault::Damaged {
+            at: place(total, rest),
+        });
     }
+    Ok((generation, left))
+}
+
+/// The number of the last event before a lane's first record.
+fn base_last_in(total: usize, rest: &[u8]) -> Result<(u64, &[u8]), LogFault>
+    requires { length rest.now ≤ total }
+    ensures gives { let read = number_in total 8 w64 (λ x. nat_le x max_tick) rest.now in
+        MatchResult result (λ x. read ≡ Ok (x.0, x.1.now)) (λ e. Fails e read) }
+    ensures within { IfOk result (λ x. 8 + length x.1.now ≡ length rest.now) }
+{
+    let (field, left) = field_in(total, 8, rest)?;
+    let last = eight(field);
+    if last > MAX_TICK {
+        return Err(LogFault::Damaged {
+            at: place(total, rest),
+        });
+    }
+    Ok((last, left))
+}
+
+/// The cut before a lane's first record.
+fn base_cut_in(total: usize, last: u64, rest: &[u8]) -> Result<(u64, &[u8]), LogFault>
+    requires { length rest.now ≤ total }
+    ensures gives { let read = number_in total 8 w64 (λ x. nat_le last x && nat_le x max_tick) rest.now in
+        MatchResult result (λ x. read ≡ Ok (x.0, x.1.now)) (λ e. Fails e read) }
+    ensures within { IfOk result (λ x. 8 + length x.1.now ≡ length rest.now) }
+{
+    let (field, left) = field_in(total, 8, rest)?;
+    let cut = eight(field);
+    if cut < last || cut > MAX_TICK {
+        return Err(LogFault::Damaged {
+            at: place(total, rest),
+        });
+    }
+    Ok((cut, left))
+}
+
+/// The number of joins before a lane's first record.
+fn count_in(total: usize, rest: &[u8]) -> Result<(u16, &[u8]), LogFault>
+    requires { length rest.now ≤ total }
+    ensures gives { let read = number_in total 2 w16 (λ x. nat_le x MAX_JOINS) rest.now in
+        MatchResult result (λ x. read ≡ Ok (x.0, x.1.now)) (λ e. Fails e read) }
+    ensures within { IfOk result (λ x. 2 + length x.1.now ≡ length rest.now) }
+{
+    let (field, left) = field_in(total, 2, rest)?;
+    let count = two(field);
+    if usize::from(count) > MAX_JOINS {
+        return Err(LogFault::Damaged {
+            at: place(total, rest),
+        });
+    }
+    Ok((count, left))
+}
+
+/// The subscriber of a join before a lane's first record, behind these joins.
+fn entrant_in<'a>(
+    total: usize,
+    late: &[u16],
+    joins: &Joins,
+    rest: &'a [u8],
+) -> Result<(u16, &'a [u8]), LogFault>
+    requires { length rest.now ≤ total }
+    ensures gives { let read = number_in total 2 w16 (is_new late.now joins.now) rest.now in
+        MatchResult result (λ x. read ≡ Ok (x.0, x.1.now)) (λ e. Fails e read) }
+    ensures new { IfOk result (λ x. is_new late.now joins.now x.0 ≡ true) }
+    ensures small { IfOk result (λ x. x.0 < 2 ^ 16) }
+    ensures within { IfOk result (λ x. 2 + length x.1.now ≡ length rest.now) }
+{
+    let (field, left) = field_in(total, 2, rest)?;
+    let subscriber = two(field);
+    if !is_new(late, joins, subscriber) {
+        return Err(LogFault::Damaged {
+            at: place(total, rest),
+        });
+    }
+    Ok((subscriber, left))
+}
+
+/// The tick of the last of some joins, 0 where there is none.
+pub(crate) fn last_tick(joins: &[Join]) -> u64
+    ensures { result ≡ last_join_tick joins.now }
+{
+    match joins {
+        [] => 0,
+        [.., last] => last.tick,
+    }
+}
+
+/// The tick of a join before a lane's first record, behind these joins.
+fn beginning_in<'a>(
+    total: usize,
+    joins: &Joins,
+    cut: u64,
+    rest: &'a [u8],
+) -> Result<(u64, &'a [u8]), LogFault>
+    requires { length rest.now ≤ total }
+    ensures gives { let read = number_in total 8 w64 (may_begin joins.now cut) rest.now in
+        MatchResult result (λ x. read ≡ Ok (x.0, x.1.now)) (λ e. Fails e read) }
+    ensures begins { IfOk result (λ x. may_begin joins.now cut x.0 ≡ true) }
+    ensures within { IfOk result (λ x. 8 + length x.1.now ≡ length rest.now) }
+{
+    let (field, left) = field_in(total, 8, rest)?;
+    let tick = eight(field);
+    if tick <= last_tick(joins.as_slice()) || tick > cut {
+        return Err(LogFault::Damaged {
+            at: place(total, rest),
+        });
+    }
+    Ok((tick, left))
+}
+
+/// So many joins before a lane's first record.
+fn joins_in<'a>(
+    alloc: Global,
+    total: usize,
+    late: &[u16],
+    count: u16,
+    cut: u64,
+    rest: &'a [u8],
+) -> Result<(Joins, &'a [u8]), LogFault>
+    requires within { length rest.now ≤ total }
+    requires late { length late.now ≤ MAX_JOINS }
+    requires cut { cut ≤ max_tick }
+    ensures gives { let read = joins_in count total late.now cut [] rest.now in
+        MatchResult result (λ x. read ≡ Ok (x.0, x.1.now)) (λ e. Fails e read) }
+    ensures within { IfOk result (λ x. length x.1.now ≤ length rest.now) }
+{
+    let mut joins = Joins::new(alloc);
+    let mut left = rest;
+    let mut more = count;
+    'joins: while more > 0 {
+        let (subscriber, behind_subscriber) = entrant_in(total, late, &joins, left)?;
+        let (tick, behind_tick) = beginning_in(total, &joins, cut, behind_subscriber)?;
+        joins = joins.with(Join { subscriber, tick })?;
+        left = behind_tick;
+        more -= 1;
+    }
+    Ok((joins, left))
+}
+
+/// With what a lane begins, of what stands from place 6 on.
+#[tactic(auto, unfolding(crate::specs::Text::base_in))]
+fn base_in<'a>(
+    alloc: Global,
+    total: usize,
+    late: &[u16],
+    rest: &'a [u8],
+) -> Result<(Base, &'a [u8]), LogFault>
+    requires within { length rest.now ≤ total }
+    requires late { length late.now ≤ MAX_JOINS }
+    ensures gives { let read = base_in total late.now rest.now in
+        MatchResult result (λ x. read ≡ Ok (x.0, x.1.now)) (λ e. Fails e read) }
+    ensures within { IfOk result (λ x. length x.1.now ≤ length rest.now) }
+{
+    let (generation, behind_generation) = generation_in(total, rest)?;
+    let (last, behind_last) = base_last_in(total, behind_generation)?;
+    let (cut, behind_cut) = base_cut_in(total, last, behind_last)?;
+    let (count, behind_count) = count_in(total, behind_cut)?;
+    let (joins, left) = joins_in(alloc, total, late, count, cut, behind_count)?;
+    Ok((
+        Base {
+            generation,
+            last,
+            cut,
+            joins,
+        },
+        left,
+    ))
 }
 
 /// What a lane holds.
 #[derive(Drop)]
-pub struct Found {
-    /// The records that it spells, for the proofs alone.
-    pub history: History,
-    /// Where they make the log stand.
-    pub standing: Standing,
-    /// The events past their cut.
+pub struct Held {
+    /// Its numbers and its joins, and the subscribers that may join.
+    pub footing: Footing,
+    /// The events past the cut.
     pub events: Entries,
     /// How many bytes stand before the closed gate.
     pub gate: usize,
 }
 
-/// What stands behind the header of a lane of so many bytes, up to a closed gate.
-fn records_in(alloc: Global, total: usize, late: &[u16], bytes: &[u8]) -> Result<Found, LogFault>
+/// Gates and records in turn, up to a closed gate, in a lane of so many bytes.
+fn records_in(alloc: Global, total: usize, begun: Footing, bytes: &[u8]) -> Result<Held, LogFault>
     requires within { length bytes.now ≤ total }
-    requires late { length late.now ≤ MAX_JOINS }
-    ensures gives { let read = records_in (total + 1) total (first_standing late.now) bytes.now in
-        MatchResult result (λ x. read ≡ Ok x.history.records) (λ e. Fails e read) }
-    ensures standing { IfOk result (λ x. x.standing ≡ standing_of late.now x.history.records) }
-    ensures follow { IfOk result (λ x. Follow (first_standing late.now) x.history.records) }
-    ensures events { IfOk result (λ x. x.events ≡ live_events x.history.records) }
-    ensures spelled { IfOk result (λ x. Closes bytes.now (blocks x.history.records)) }
-    ensures gate { IfOk result (λ x. x.gate ≡ length (blocks x.history.records)) }
+    requires state { IsState (held_by begun []) }
+    ensures gives { let read = placed total (records_in (total + 1) total (held_by begun []) bytes.now) in
+        MatchResult result (λ x. read ≡ Ok (held_by x.footing x.events, x.gate)) (λ e. Fails e read) }
+    ensures state { IfOk result (λ x. IsState (held_by x.footing x.events)) }
+    ensures late { IfOk result (λ x. x.footing.late ≡ begun.late) }
+    ensures inside { IfOk result (λ x. x.gate ≤ total) }
 {
-    let mut history = History::new();
-    let mut standing = Standing::new(alloc, late)?;
+    let mut footing = begun;
     let mut entries = VecDeque::new(alloc);
     let mut rest = bytes;
     'gates: loop {
@@ -379,20 +460,20 @@ fn records_in(alloc: Global, total: usize, late: &[u16], bytes: &[u8]) -> Result
             return Err(LogFault::Damaged { at: total as u64 });
         }
         if rest[0] != 1 {
-            return Ok(Found {
-                history,
-                standing,
+            return Ok(Held {
+                footing,
                 events: Entries { entries },
-                gate: bytes.len() - rest.len(),
+                gate: total - rest.len(),
             });
         }
-        match record_in(alloc, total, &standing, &rest[1..]) {
+        // Proof only: each of them is a byte.
+        are_bytes(&rest[1..]);
+        match record_in(alloc, total, &footing, &rest[1..]) {
             Ok((entry, left)) => {
                 entries.reserve(1)?;
-                let joins = standing.joins_with(&entry)?;
+                let joins = footing.joins_with(&entry)?;
                 note_record(&mut entries, &entry);
-                standing.note(&entry, joins);
-                history = history.then(&entry);
+                footing.note(&entry, joins);
                 drop(entry);
                 rest = left;
             }
@@ -401,28 +482,72 @@ fn records_in(alloc: Global, total: usize, late: &[u16], bytes: &[u8]) -> Result
     }
 }
 
-/// What a lane of more than 6 bytes holds.
-#[tactic(auto, unfolding(crate::specs::Text::log_text))]
-pub fn log_in(alloc: Global, late: &[u16], bytes: &[u8]) -> Result<Found, LogFault>
-    requires long { 6 < length bytes.now }
+/// What a lane of the second version holds, where these subscribers may join.
+#[tactic(auto, unfolding(crate::specs::Text::text_in))]
+fn new_text_in(alloc: Global, late: &[u16], generation: u64, bytes: &[u8]) -> Result<Held, LogFault>
+    requires long { 6 ≤ length bytes.now }
     requires late { length late.now ≤ MAX_JOINS }
-    ensures gives { let read = log_text late.now bytes.now in
-        MatchResult result (λ x. read ≡ Ok x.history.records) (λ e. Fails e read) }
-    ensures standing { IfOk result (λ x. x.standing ≡ standing_of late.now x.history.records) }
-    ensures events { IfOk result (λ x. x.events ≡ live_events x.history.records) }
-    ensures spelled { IfOk result (λ x. IsSpelled late.now bytes.now x.history.records) }
-    ensures gate { IfOk result (λ x. x.gate ≡ length (front_text x.history.records)) }
-    ensures inside { IfOk result (λ x. x.gate < length bytes.now) }
+    ensures gives { let read = placed_in late.now (Standing.New generation) bytes.now in
+        MatchResult result (λ x. read ≡ Ok (held_by x.footing x.events, x.gate)) (λ e. Fails e read) }
+    ensures state { IfOk result (λ x. IsState (held_by x.footing x.events)) }
+    ensures late { IfOk result (λ x. x.footing.late ≡ late.now) }
+    ensures inside { IfOk result (λ x. x.gate ≤ length bytes.now) }
 {
-    let fault = header_fault(bytes);
-    if fault != 5 {
-        return Err(LogFault::Damaged { at: fault });
-    }
-    let found = records_in(alloc, bytes.len(), late, &bytes[5..])?;
-    Ok(Found {
-        history: found.history,
-        standing: found.standing,
-        events: found.events,
-        gate: 5 + found.gate,
+    // Proof only: each of them is a byte.
+    are_bytes(&bytes[6..]);
+    let (base, left) = base_in(alloc, bytes.len(), late, &bytes[6..])?;
+    let footing = Footing::new(alloc, base.numbers(), base.joins.share(), late)?;
+    records_in(alloc, bytes.len(), footing, left)
+}
+
+/// What a lane of the first version holds, where these subscribers may join.
+#[tactic(auto, unfolding(crate::specs::Text::text_in))]
+fn old_text_in(alloc: Global, late: &[u16], bytes: &[u8]) -> Result<Held, LogFault>
+    requires long { 6 ≤ length bytes.now }
+    requires late { length late.now ≤ MAX_JOINS }
+    ensures gives { let read = placed_in late.now Standing.Old bytes.now in
+        MatchResult result (λ x. read ≡ Ok (held_by x.footing x.events, x.gate)) (λ e. Fails e read) }
+    ensures state { IfOk result (λ x. IsState (held_by x.footing x.events)) }
+    ensures late { IfOk result (λ x. x.footing.late ≡ late.now) }
+    ensures inside { IfOk result (λ x. x.gate ≤ length bytes.now) }
+{
+    let footing = Footing::first(alloc, late)?;
+    records_in(alloc, bytes.len(), footing, &bytes[5..])
+}
+
+/// What a lane of no record holds.
+fn nothing_in(alloc: Global, late: &[u16], gate: usize) -> Result<Held, LogFault>
+    requires { length late.now ≤ MAX_JOINS }
+    ensures gives { IfOk result (λ x. (held_by x.footing x.events ≡ empty_state late.now) × (x.gate ≡ gate)) }
+    ensures fails { MatchResult result (λ _. Unit {0}) (λ e. e ≡ LogFault.Memory) }
+{
+    Ok(Held {
+        footing: Footing::first(alloc, late)?,
+        events: Entries::new(alloc),
+        gate,
     })
+}
+
+/// What a lane holds whose head is one of a lane that stands so, where these subscribers may join. Of one that is shut
+/// nothing is read.
+#[tactic(auto, unfolding(crate::specs::Text::text_in))]
+pub(crate) fn text_in(
+    alloc: Global,
+    late: &[u16],
+    standing: Standing,
+    bytes: &[u8],
+) -> Result<Held, LogFault>
+    requires long { 6 ≤ length bytes.now }
+    requires late { length late.now ≤ MAX_JOINS }
+    ensures gives { let read = placed_in late.now standing bytes.now in
+        MatchResult result (λ x. read ≡ Ok (held_by x.footing x.events, x.gate)) (λ e. Fails e read) }
+    ensures state { IfOk result (λ x. IsState (held_by x.footing x.events)) }
+    ensures late { IfOk result (λ x. x.footing.late ≡ late.now) }
+    ensures inside { IfOk result (λ x. x.gate ≤ length bytes.now) }
+{
+    match standing {
+        Standing::Shut => nothing_in(alloc, late, bytes.len()),
+        Standing::Old => old_text_in(alloc, late, bytes),
+        Standing::New(generation) => new_text_in(alloc, late, generation, bytes),
+    }
 }

@@ -1,10 +1,12 @@
-//! Records, what a list of them stands for, and the faults of a log.
+//! Records, what they stand for, what a lane begins with, and the faults of a log.
 
-ghost use Rattle.std.specs.Prelude.{◌≡◌};
-ghost use Rattle.gr_publog.specs.State.{empty_state, after_record, may_settle, may_cut};
+ghost use Rattle.std.specs.Prelude.{◌≡◌, []};
+ghost use Rattle.gr_publog.specs.State.{no_numbers, noted, may_settle, may_cut};
+ghost use Rattle.gr_publog.specs.State.{numbers};
+ghost use Rattle.gr_publog.specs.Text.{begun};
 ghost use Rattle.gr_publog.specs.declared.record.LogFault.TheVariants.{Memory as WantOfMemory};
 
-use gr_event::{Event, EventFault};
+use gr_event::{Event, Joins};
 use std::alloc::{AllocError, AllocFailed};
 
 /// Want of memory.
@@ -55,6 +57,32 @@ pub struct Entry {
     pub event: Event,
 }
 
+/// With what a lane of the second version begins.
+#[derive(Drop)]
+pub struct Base {
+    /// The generation, from 1 to 2^62. Of two lanes the one with the greater generation is present.
+    pub generation: u64,
+    /// The number of the last event before the first record, or 0. At most the cut.
+    pub last: u64,
+    /// What is settled and cut before the first record, from 0 to 2^62.
+    pub cut: u64,
+    /// The joins up to the cut.
+    pub joins: Joins,
+}
+
+impl Base {
+    /// The numbers that it stands for.
+    pub fn numbers(&self) -> State
+        ensures { result ≡ numbers (begun [] self.now) }
+    {
+        State {
+            last: self.last,
+            settled: self.cut,
+            cut: self.cut,
+        }
+    }
+}
+
 /// Why a log could not be opened or written.
 #[derive(Clone, Copy, Debug, PartialEq, Eq)]
 pub enum LogFault {
@@ -62,9 +90,9 @@ pub enum LogFault {
     Memory,
     /// The disk failed.
     Disk,
-    /// The lane holds no log.
+    /// The lanes hold no log.
     Damaged {
-        /// The first byte, from 0, of the first field that breaks it.
+        /// The first byte, from 0 and in its lane, of the first field that breaks it.
         at: u64,
     },
     /// The disk failed before. The log has to be opened again.
@@ -87,7 +115,7 @@ impl<T: Drop> From<AllocFailed<T>> for LogFault {
     }
 }
 
-/// The numbers that a list of records stands for.
+/// The numbers that records stand for.
 #[derive(Clone, Copy, Debug, PartialEq, Eq)]
 pub struct State {
     /// The number of the last event, or 0.
@@ -101,7 +129,7 @@ pub struct State {
 impl State {
     /// Before the first record.
     pub fn new() -> State
-        ensures { result ≡ empty_state }
+        ensures { result ≡ no_numbers }
     {
         State {
             last: 0,
@@ -112,7 +140,7 @@ impl State {
 
     /// Notes one more record.
     pub fn note(&mut self, entry: &Record)
-        ensures { self.new ≡ after_record self.old entry.now }
+        ensures { self.new ≡ noted self.old entry.now }
     {
         match entry {
             Record::Event { tick, number, .. } => {

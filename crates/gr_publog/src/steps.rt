@@ -1,24 +1,30 @@
-//! The calls on a disk that open a log and append a record.
+//! The calls on a disk that append a record, and that close a lane and fill it anew.
 
-ghost use Rattle.std.specs.Prelude.{◌≡◌, ◌≢◌, ℕ, ◌+◌, ◌^◌, ◌<◌, ◌≤◌, List, length, true, IsErr, IsErrOf, OnOk, IfOk};
-ghost use Rattle.std.specs.Prelude.{◌⊎◌, ◌++◌, ◌∷◌, []};
+ghost use Rattle.std.specs.Prelude.{◌≡◌, ◌≢◌, ◌⊎◌, ℕ, ◌+◌, ◌^◌, ◌<◌, ◌≤◌, List, length, drop, get_or, true, IsErr, OnOk};
 ghost use Rattle.gr_out.specs.Faults.{Rose};
-ghost use Rattle.gr_out.specs.Lane.{content, moment, crash_image, has_stopped, LeavesOnly, LeftSince, MayLeave, Write};
-ghost use Rattle.gr_out.specs.Lane.{Cut, Sync};
+ghost use Rattle.gr_out.specs.Lane.{content, moment, over, Torn, crash_image, has_stopped, LeavesOnly, LeftSince};
 ghost use Rattle.gr_out.specs.Stops.{StaysFaultless};
 ghost use Rattle.gr_out.specs.declared.disk.Stop.TheVariants.{Unset, After};
-ghost use Rattle.gr_publog.specs.Text.{header};
-ghost use Rattle.gr_publog.specs.Crash.{behind_gate, opened_gate, IsBetween, EitherRose, GaveUp, DiskRose};
-ghost use Rattle.gr_publog.specs.Kept.{Broke, StoppedImage};
-ghost use Rattle.gr_publog.specs.Calls.{append_calls, GoesOn, NotFailed};
+ghost use Rattle.gr_publog.specs.declared.steps.Aside.TheVariants.{Opened};
+ghost use Rattle.gr_publog.specs.Rewrite.{IsShut, IsStamped, filled};
+ghost use Rattle.gr_publog.specs.Crash.{behind_gate, opened_gate, IsBetween, EitherRose, Broke, StoppedImage};
+ghost use Rattle.gr_publog.specs.Steps.{StandsAs, GoesOn, put_calls, append_calls, closing_calls, rewriting_calls};
 
-use crate::record::LogFault;
+use crate::law::{filled_same, three_outcomes};
 use gr_out::{Disk, Failed};
-use std::alloc::Global;
 
-/// Writes bytes behind a closed gate, and only once they are synced opens the gate. Two syncs: the first, since a disk
-/// may write the gate before the bytes and a crash between would open it over anything; the second, since what the call
-/// answers for must outlast a crash.
+/// How a lane stands that is to be filled anew.
+#[derive(Clone, Copy, Debug, PartialEq, Eq)]
+pub enum Aside {
+    /// It has at most 6 bytes.
+    Short,
+    /// It has more, and its byte 5 is 1.
+    Opened,
+    /// It has more, and its byte 5 is not 1.
+    Closed,
+}
+
+/// Writes bytes behind a closed gate, and only once they are synced opens the gate.
 pub(crate) fn append_behind<D: Disk>(
     disk: &mut D,
     lane: u16,
@@ -67,59 +73,23 @@ pub(crate) fn append_behind<D: Disk>(
     disk.sync(lane)
 }
 
-/// Makes room for an empty log in a lane and syncs it, and answers how many bytes it has.
-pub(crate) fn ready_lane<D: Disk>(disk: &mut D, lane: u16) -> Result<u64, LogFault>
-    ensures size { D.tells → IfOk result (λ n. n ≡ length (content (D.lane_of disk.old lane))) }
-    ensures content { D.tells → content (D.lane_of disk.new lane) ≡ content (D.lane_of disk.old lane) }
-    ensures only { let l = D.lane_of disk.new lane in D.tells → OnOk result (LeavesOnly l (content l)) }
-    ensures room { D.tells → OnOk result (6 ≤ (D.lane_of disk.new lane).room) }
-    ensures left { D.tells → OnOk result (3 ≤ (D.lane_of disk.new lane).left) }
-    ensures calls { let l = D.lane_of disk.old lane in
-        D.tells → OnOk result ((D.lane_of disk.new lane).calls ≡ Sync ∷ l.calls) }
-    ensures any_moment { let l = D.lane_of disk.old lane in D.tells → (image : List ℕ) →
-        LeftSince (D.lane_of disk.new lane) (moment l) image → MayLeave l image ⊎ (image ≡ content l) }
-    ensures reserved { D.tells → OnOk result ((D.lane_of disk.new lane).reserved ≡ true) }
-    ensures later { D.tells → moment (D.lane_of disk.old lane) ≤ moment (D.lane_of disk.new lane) }
-    ensures unset { D.tells → (D.lane_of disk.old lane).stop ≡ Unset → (D.lane_of disk.new lane).stop ≡ Unset }
-    ensures others { D.tells → (n : ℕ) → n ≢ lane → D.lane_of disk.new n ≡ D.lane_of disk.old n }
-    ensures gave_up { GaveUp result }
-    ensures faults { D.faults disk.old ≤ D.faults disk.new }
-    ensures stops { D.stops disk.old ≤ D.stops disk.new }
-    ensures same { NotFailed result → (D.faults disk.new ≡ D.faults disk.old) × (D.stops disk.new ≡ D.stops disk.old) }
-    ensures disk { DiskRose result (D.faults disk.old) (D.faults disk.new) (D.stops disk.old) (D.stops disk.new) }
-    ensures why { D.tells → IsErrOf result LogFault.Disk →
-        (has_stopped (D.lane_of disk.new lane).stop ≡ true) ⊎ Rose (D.faults disk.old) (D.faults disk.new) }
-    ensures by_stop { D.tells → D.faultless disk.old → IsErrOf result LogFault.Disk →
-        has_stopped (D.lane_of disk.new lane).stop ≡ true }
-    ensures faultless { let f = D.faults disk.old in
-        StaysFaultless (D.faultless disk.old) (D.faultless disk.new) f (D.faults disk.new) }
-{
-    match disk.reserve(lane, 6) {
-        Ok(()) => {}
-        Err(_) => return Err(LogFault::Memory),
-    }
-    match disk.sync(lane) {
-        Ok(()) => {}
-        Err(_) => return Err(LogFault::Disk),
-    }
-    match disk.size(lane) {
-        Ok(size) => Ok(size),
-        Err(_) => Err(LogFault::Disk),
-    }
-}
-
-/// Gives a lane of at most 6 bytes the text of an empty log.
-pub(crate) fn write_empty<D: Disk>(disk: &mut D, lane: u16) -> Result<(), Failed>
-    requires short { D.tells → length (content (D.lane_of disk.old lane)) ≤ 6 }
-    requires room { D.tells → 6 ≤ (D.lane_of disk.old lane).room }
-    requires few { D.tells → 3 ≤ (D.lane_of disk.old lane).left }
+/// Writes bytes over a lane and syncs them.
+pub(crate) fn put<D: Disk>(disk: &mut D, lane: u16, at: u64, bytes: &[u8]) -> Result<(), Failed>
+    requires within { D.tells → at ≤ length (content (D.lane_of disk.old lane)) }
+    requires room { D.tells → at + length bytes.now ≤ (D.lane_of disk.old lane).room }
+    requires few { D.tells → 2 ≤ (D.lane_of disk.old lane).left }
     requires only { let l = D.lane_of disk.old lane in D.tells → LeavesOnly l (content l) }
-    ensures written { D.tells → OnOk result (content (D.lane_of disk.new lane) ≡ header ++ 0 ∷ []) }
+    ensures written { let l = D.lane_of disk.old lane in
+        D.tells → OnOk result (content (D.lane_of disk.new lane) ≡ over at bytes.now (content l)) }
     ensures only { let l = D.lane_of disk.new lane in D.tells → OnOk result (LeavesOnly l (content l)) }
-    ensures calls { let l = D.lane_of disk.old lane in let text = header ++ 0 ∷ [] in
-        D.tells → OnOk result ((D.lane_of disk.new lane).calls ≡ Sync ∷ (Write 0 text ∷ (Cut 0 ∷ l.calls))) }
     ensures any_moment { let l = D.lane_of disk.old lane in D.tells → (n : ℕ) (image : List ℕ) →
-        LeftSince (D.lane_of disk.new lane) n image → LeftSince l n image ⊎ (length image ≤ 6) }
+        LeftSince (D.lane_of disk.new lane) n image
+        → LeftSince l n image ⊎ Torn at (length bytes.now) (content l) image }
+    ensures calls { let l = D.lane_of disk.old lane in
+        D.tells → OnOk result ((D.lane_of disk.new lane).calls ≡ put_calls at bytes.now l.calls) }
+    ensures goes_on { D.tells → GoesOn (D.lane_of disk.old lane) (D.lane_of disk.new lane) }
+    ensures left { D.tells → (D.lane_of disk.old lane).left ≤ (D.lane_of disk.new lane).left + 2 }
+    ensures room { D.tells → (D.lane_of disk.new lane).room ≡ (D.lane_of disk.old lane).room }
     ensures reserved { D.tells → (D.lane_of disk.new lane).reserved ≡ (D.lane_of disk.old lane).reserved }
     ensures unset { D.tells → (D.lane_of disk.old lane).stop ≡ Unset → (D.lane_of disk.new lane).stop ≡ Unset }
     ensures others { D.tells → (n : ℕ) → n ≢ lane → D.lane_of disk.new n ≡ D.lane_of disk.old n }
@@ -136,41 +106,135 @@ pub(crate) fn write_empty<D: Disk>(disk: &mut D, lane: u16) -> Result<(), Failed
     ensures faultless { let f = D.faults disk.old in
         StaysFaultless (D.faultless disk.old) (D.faultless disk.new) f (D.faults disk.new) }
 {
-    disk.cut(lane, 0)?;
-    disk.write_at(lane, 0, b"GLOG\x01\x00")?;
+    disk.write_at(lane, at, bytes)?;
     disk.sync(lane)
 }
 
-/// The bytes of a lane.
-pub fn bytes_in<D: Disk>(
-    alloc: Global,
-    disk: &mut D,
-    lane: u16,
-    size: u64,
-) -> Result<Vec<u8>, LogFault>
-    requires { D.tells → size ≡ length (content (D.lane_of disk.old lane)) }
-    ensures bytes { D.tells → IfOk result (λ v. v.items ≡ content (D.lane_of disk.old lane)) }
-    ensures len { IfOk result (λ v. length v.items ≡ size) }
-    ensures lanes { D.tells → (n : ℕ) → D.lane_of disk.new n ≡ D.lane_of disk.old n }
-    ensures gave_up { GaveUp result }
+/// Shuts a lane that stands open, and stamps it.
+fn close_open<D: Disk>(disk: &mut D, lane: u16) -> Result<(), Failed>
+    requires long { D.tells → 6 < length (content (D.lane_of disk.old lane)) }
+    requires opened { D.tells → get_or (content (D.lane_of disk.old lane)) 5 0 ≡ 1 }
+    requires room { D.tells → 6 ≤ (D.lane_of disk.old lane).room }
+    requires few { D.tells → 4 ≤ (D.lane_of disk.old lane).left }
+    requires only { let l = D.lane_of disk.old lane in D.tells → LeavesOnly l (content l) }
+    ensures stamped { D.tells → OnOk result (IsStamped (content (D.lane_of disk.new lane))) }
+    ensures behind { let l = D.lane_of disk.old lane in
+        D.tells → OnOk result (drop 6 (content (D.lane_of disk.new lane)) ≡ drop 6 (content l)) }
+    ensures only { let l = D.lane_of disk.new lane in D.tells → OnOk result (LeavesOnly l (content l)) }
+    ensures any_moment { let l = D.lane_of disk.old lane in D.tells → (n : ℕ) (image : List ℕ) →
+        LeftSince (D.lane_of disk.new lane) n image → LeftSince l n image ⊎ ((image ≡ content l) ⊎ IsShut image) }
+    ensures calls { let l = D.lane_of disk.old lane in
+        D.tells → OnOk result ((D.lane_of disk.new lane).calls ≡ closing_calls Opened l.calls) }
+    ensures goes_on { D.tells → GoesOn (D.lane_of disk.old lane) (D.lane_of disk.new lane) }
+    ensures left { D.tells → (D.lane_of disk.old lane).left ≤ (D.lane_of disk.new lane).left + 4 }
+    ensures room { D.tells → (D.lane_of disk.new lane).room ≡ (D.lane_of disk.old lane).room }
+    ensures reserved { D.tells → (D.lane_of disk.new lane).reserved ≡ (D.lane_of disk.old lane).reserved }
+    ensures unset { D.tells → (D.lane_of disk.old lane).stop ≡ Unset → (D.lane_of disk.new lane).stop ≡ Unset }
+    ensures others { D.tells → (n : ℕ) → n ≢ lane → D.lane_of disk.new n ≡ D.lane_of disk.old n }
     ensures faults { D.faults disk.old ≤ D.faults disk.new }
     ensures stops { D.stops disk.old ≤ D.stops disk.new }
-    ensures same { NotFailed result → (D.faults disk.new ≡ D.faults disk.old) × (D.stops disk.new ≡ D.stops disk.old) }
-    ensures disk { DiskRose result (D.faults disk.old) (D.faults disk.new) (D.stops disk.old) (D.stops disk.new) }
-    ensures why { D.tells → IsErrOf result LogFault.Disk →
+    ensures same { OnOk result (D.faults disk.new ≡ D.faults disk.old) }
+    ensures same_stops { OnOk result (D.stops disk.new ≡ D.stops disk.old) }
+    ensures cause { IsErr result →
+        EitherRose (D.faults disk.old) (D.faults disk.new) (D.stops disk.old) (D.stops disk.new) }
+    ensures why { D.tells → IsErr result →
         (has_stopped (D.lane_of disk.new lane).stop ≡ true) ⊎ Rose (D.faults disk.old) (D.faults disk.new) }
-    ensures by_stop { D.tells → D.faultless disk.old → IsErrOf result LogFault.Disk →
+    ensures by_stop { D.tells → D.faultless disk.old → IsErr result →
         has_stopped (D.lane_of disk.new lane).stop ≡ true }
     ensures faultless { let f = D.faults disk.old in
         StaysFaultless (D.faultless disk.old) (D.faultless disk.new) f (D.faults disk.new) }
 {
-    let mut bytes = Vec::new(alloc);
-    match bytes.resize(size as usize, 0) {
-        Ok(()) => {}
-        Err(_) => return Err(LogFault::Memory),
+    // Proof only: what a crash leaves of each write.
+    three_outcomes();
+    put(disk, lane, 5, &[0])?;
+    put(disk, lane, 0, b"GLOG\x02")
+}
+
+/// Shuts a lane and stamps it: `GLOG`, the version 2 and a gate that is not open. The gate of a longer lane that is
+/// shut is not written, since a crash could leave it open, with what an earlier filling left behind it.
+pub(crate) fn close<D: Disk>(disk: &mut D, lane: u16, aside: Aside) -> Result<(), Failed>
+    requires aside { D.tells → StandsAs aside (content (D.lane_of disk.old lane)) }
+    requires room { D.tells → 6 ≤ (D.lane_of disk.old lane).room }
+    requires few { D.tells → 4 ≤ (D.lane_of disk.old lane).left }
+    requires only { let l = D.lane_of disk.old lane in D.tells → LeavesOnly l (content l) }
+    ensures stamped { D.tells → OnOk result (IsStamped (content (D.lane_of disk.new lane))) }
+    ensures behind { let l = D.lane_of disk.old lane in
+        D.tells → OnOk result (drop 6 (content (D.lane_of disk.new lane)) ≡ drop 6 (content l)) }
+    ensures only { let l = D.lane_of disk.new lane in D.tells → OnOk result (LeavesOnly l (content l)) }
+    ensures any_moment { let l = D.lane_of disk.old lane in D.tells → (n : ℕ) (image : List ℕ) →
+        LeftSince (D.lane_of disk.new lane) n image → LeftSince l n image ⊎ ((image ≡ content l) ⊎ IsShut image) }
+    ensures calls { let l = D.lane_of disk.old lane in
+        D.tells → OnOk result ((D.lane_of disk.new lane).calls ≡ closing_calls aside l.calls) }
+    ensures goes_on { D.tells → GoesOn (D.lane_of disk.old lane) (D.lane_of disk.new lane) }
+    ensures left { D.tells → (D.lane_of disk.old lane).left ≤ (D.lane_of disk.new lane).left + 4 }
+    ensures room { D.tells → (D.lane_of disk.new lane).room ≡ (D.lane_of disk.old lane).room }
+    ensures reserved { D.tells → (D.lane_of disk.new lane).reserved ≡ (D.lane_of disk.old lane).reserved }
+    ensures unset { D.tells → (D.lane_of disk.old lane).stop ≡ Unset → (D.lane_of disk.new lane).stop ≡ Unset }
+    ensures others { D.tells → (n : ℕ) → n ≢ lane → D.lane_of disk.new n ≡ D.lane_of disk.old n }
+    ensures faults { D.faults disk.old ≤ D.faults disk.new }
+    ensures stops { D.stops disk.old ≤ D.stops disk.new }
+    ensures same { OnOk result (D.faults disk.new ≡ D.faults disk.old) }
+    ensures same_stops { OnOk result (D.stops disk.new ≡ D.stops disk.old) }
+    ensures cause { IsErr result →
+        EitherRose (D.faults disk.old) (D.faults disk.new) (D.stops disk.old) (D.stops disk.new) }
+    ensures why { D.tells → IsErr result →
+        (has_stopped (D.lane_of disk.new lane).stop ≡ true) ⊎ Rose (D.faults disk.old) (D.faults disk.new) }
+    ensures by_stop { D.tells → D.faultless disk.old → IsErr result →
+        has_stopped (D.lane_of disk.new lane).stop ≡ true }
+    ensures faultless { let f = D.faults disk.old in
+        StaysFaultless (D.faultless disk.old) (D.faultless disk.new) f (D.faults disk.new) }
+{
+    // Proof only: what a crash leaves of each write.
+    three_outcomes();
+    match aside {
+        Aside::Short => put(disk, lane, 0, b"GLOG\x02\x00"),
+        Aside::Closed => put(disk, lane, 0, b"GLOG\x02"),
+        Aside::Opened => close_open(disk, lane),
     }
-    match disk.read(lane, 0, &mut bytes) {
-        Ok(()) => Ok(bytes),
-        Err(_) => Err(LogFault::Disk),
-    }
+}
+
+/// Closes a lane, puts a body behind its gate, and opens that. Whatever moment a crash comes at, it leaves the bytes
+/// that were there, a shut lane, or the filled one.
+pub(crate) fn rewrite<D: Disk>(
+    disk: &mut D,
+    lane: u16,
+    aside: Aside,
+    body: &[u8],
+) -> Result<(), Failed>
+    requires aside { D.tells → StandsAs aside (content (D.lane_of disk.old lane)) }
+    requires room { D.tells → 6 + length body.now ≤ (D.lane_of disk.old lane).room }
+    requires few { D.tells → 8 ≤ (D.lane_of disk.old lane).left }
+    requires only { let l = D.lane_of disk.old lane in D.tells → LeavesOnly l (content l) }
+    ensures written { let l = D.lane_of disk.old lane in
+        D.tells → OnOk result (content (D.lane_of disk.new lane) ≡ filled body.now (content l)) }
+    ensures only { let l = D.lane_of disk.new lane in D.tells → OnOk result (LeavesOnly l (content l)) }
+    ensures any_moment { let l = D.lane_of disk.old lane in D.tells → (n : ℕ) (image : List ℕ) →
+        LeftSince (D.lane_of disk.new lane) n image
+        → LeftSince l n image ⊎ ((image ≡ content l) ⊎ (IsShut image ⊎ (image ≡ filled body.now (content l)))) }
+    ensures calls { let l = D.lane_of disk.old lane in
+        D.tells → OnOk result ((D.lane_of disk.new lane).calls ≡ rewriting_calls aside body.now l.calls) }
+    ensures goes_on { D.tells → GoesOn (D.lane_of disk.old lane) (D.lane_of disk.new lane) }
+    ensures left { D.tells → (D.lane_of disk.old lane).left ≤ (D.lane_of disk.new lane).left + 8 }
+    ensures reserved { D.tells → (D.lane_of disk.new lane).reserved ≡ (D.lane_of disk.old lane).reserved }
+    ensures unset { D.tells → (D.lane_of disk.old lane).stop ≡ Unset → (D.lane_of disk.new lane).stop ≡ Unset }
+    ensures others { D.tells → (n : ℕ) → n ≢ lane → D.lane_of disk.new n ≡ D.lane_of disk.old n }
+    ensures faults { D.faults disk.old ≤ D.faults disk.new }
+    ensures stops { D.stops disk.old ≤ D.stops disk.new }
+    ensures same { OnOk result (D.faults disk.new ≡ D.faults disk.old) }
+    ensures same_stops { OnOk result (D.stops disk.new ≡ D.stops disk.old) }
+    ensures cause { IsErr result →
+        EitherRose (D.faults disk.old) (D.faults disk.new) (D.stops disk.old) (D.stops disk.new) }
+    ensures why { D.tells → IsErr result →
+        (has_stopped (D.lane_of disk.new lane).stop ≡ true) ⊎ Rose (D.faults disk.old) (D.faults disk.new) }
+    ensures by_stop { D.tells → D.faultless disk.old → IsErr result →
+        has_stopped (D.lane_of disk.new lane).stop ≡ true }
+    ensures faultless { let f = D.faults disk.old in
+        StaysFaultless (D.faultless disk.old) (D.faultless disk.new) f (D.faults disk.new) }
+{
+    // Proof only: what a crash leaves of each write.
+    three_outcomes();
+    filled_same();
+    close(disk, lane, aside)?;
+    put(disk, lane, 6, body)?;
+    put(disk, lane, 5, &[1])
 }

@@ -1,86 +1,71 @@
 -- The record stands behind a closed gate before the gate is opened
-use Rattle.std.proofs.Common.{List, Some, refl, ap, ◌∙◌, arith}
+use Rattle.std.proofs.Common.{◌≡◌, ℕ, ◌+◌, ◌-◌, Bool, List, Some, refl, ap, ap₂, sym, ◌∙◌, subst, arith}
 use Rattle.gr_publog.specs.declared.record.Entry.{Entry}
-use Rattle.gr_publog.specs.State.{live_after}
-use Rattle.gr_publog.proofs.Live.{live_is}
-use Rattle.gr_publog.proofs.Joins.{may_there}
-use Rattle.gr_publog.proofs.Crash.{log_more}
-use Rattle.gr_publog.proofs.Calling.{appends_refused, appends_failed, appends_ok}
-use Rattle.gr_publog.proofs.Onward.{goes_on_same}
+use Rattle.gr_publog.specs.State.{LogState, held_by, live_after, after_record, IsState, EntriesRise}
+use Rattle.gr_publog.specs.Text.{record_size}
+use Rattle.gr_publog.specs.Views.{LogView}
+use Rattle.gr_publog.proofs.Kept.{kept, entries_rise}
+use Rattle.gr_publog.proofs.Calling.{appends_refused}
+use Rattle.gr_publog.proofs.Numbered.{appends_at, gate_within, stands_present, extends_ok_as, extends_err_as, leaves_fault, leaves_ok}
 use Rattle.gr_publog.proofs.log.Log.append.Goals as goal
 
-pub returns-in-Err-clause-lane : goal.returns-in-Err-clause-lane
-returns-in-Err-clause-lane g c = λ t. appends_refused c.args.self.now (Some c.args.entry.now) _ _ (c.requires.stands t) refl
+pub returns-in-Err-clause-lanes : goal.returns-in-Err-clause-lanes
+returns-in-Err-clause-lanes g c = λ t. appends_refused c.args.self.now (Some c.args.entry.now) _ _ refl c.shut_is.ensures c.two_are.ensures c.lower_is.ensures (c.requires.stands t)
 
-pub returns-in-Err-joins_with-clause-lane : goal.returns-in-Err-joins_with-clause-lane
-returns-in-Err-joins_with-clause-lane g c = λ t. appends_refused c.args.self.now (Some c.args.entry.now) _ _ (c.requires.stands t) refl
+pub returns-in-Err-joins_with-clause-lanes : goal.returns-in-Err-joins_with-clause-lanes
+returns-in-Err-joins_with-clause-lanes g c = λ t. appends_refused c.args.self.now (Some c.args.entry.now) _ _ refl c.shut_is.ensures c.two_are.ensures c.lower_is.ensures (c.requires.stands t)
 
-pub returns-in-Err-prepare-clause-lane : goal.returns-in-Err-prepare-clause-lane
-returns-in-Err-prepare-clause-lane g c = λ t.
-    let same = ap (λ v. v.lane) c.self.view_is in
-    appends_refused c.args.self.now (Some c.args.entry.now) _ _ (c.requires.stands t) (rw same at (c.in-Err-prepare.ensures.err t))
+pub append_at-requires-clause-within : goal.append_at-requires-clause-within
+append_at-requires-clause-within g c = λ t.
+    let s = rw (← c.self.view_is) at c.requires.stands in
+    gate_within _ (g.D.Disk.lane_of c.args.disk.now) c.number_of-lane.result (c.self.inside.size - 1) c.number_of-lane.ensures (omega (arith, c.self.invariant.4)) (s t c.if-self.false)
 
-pub returns-in-Err-append_behind-clause-lane : goal.returns-in-Err-append_behind-clause-lane
-returns-in-Err-append_behind-clause-lane g c = rw (← c.self.view_is) (λ t.
+pub append_at-requires-clause-only : goal.append_at-requires-clause-only
+append_at-requires-clause-only g c = λ t.
+    let s = rw (← c.self.view_is) at c.requires.stands in
+    stands_present _ (g.D.Disk.lane_of c.args.disk.now) c.number_of-lane.result c.number_of-lane.ensures (s t c.if-self.false)
+
+pub returns-in-Err-append_at-clause-lanes : goal.returns-in-Err-append_at-clause-lanes
+returns-in-Err-append_at-clause-lanes g c = rw (← c.self.view_is) (λ t.
     let s = rw (← c.self.view_is) at c.requires.stands in
     let f = rw (← c.self.view_is) at c.requires.follows in
-    appends_failed _ c.args.entry.now _ (g.D.Disk.lane_of c.prepare.new.disk c.self.inside.lane) _ _ c.self.inside.gate c.as_slice.result.now (record {
-      stands = s t c.if-self.false;
-      room = c.in-Ok-prepare.ensures.room t;
-      place = c.self.invariant.0;
-      ok = f;
-      sound = c.in-Ok-prepare.ensures.sound;
-      text = c.as_slice.ensures ∙ c.in-Ok-prepare.ensures.bytes;
-      any_moment = c.append_behind.ensures.any_moment t;
-      picked = c.append_behind.ensures.picked t;
-      left = c.append_behind.ensures.left t;
-      reserved = c.append_behind.ensures.reserved t;
-      unset = c.append_behind.ensures.unset t;
-    }))
+    appends_at _ c.args.entry.now (g.D.Disk.lane_of c.args.disk.now) (g.D.Disk.lane_of c.append_at.new.disk) c.number_of-lane.result (c.self.inside.size - 1) _ c.number_of-lane.ensures (c.append_at.ensures.others t)
+    c.shut_is.ensures c.two_are.ensures c.lower_is.ensures (s t c.if-self.false) (omega (arith, c.self.invariant.4)) f c.is_sound.ensures (extends_err_as _ _ _ _ _ (c.in-Err-append_at.ensures.extends t)))
 
-pub returns-clause-lane : goal.returns-clause-lane
-returns-clause-lane g c = rw (← c.self.view_is) (λ t.
+pub returns-in-Err-append_at-clause-log : goal.returns-in-Err-append_at-clause-log
+returns-in-Err-append_at-clause-log g c = rw (← c.self.view_is)
+    (leaves_fault ℕ c.in-Err-append_at.fault _ _ _ c.in-Err-append_at.ensures.gave_up c.if-self.false
+    (ap₂ (λ (es : List Entry) (b : Bool). let v : LogView = record { lane = c.self.inside.lane; state = held_by c.self.inside.footing es; broken = b; second = c.self.inside.second; generation = c.self.inside.generation; size = c.self.inside.size; aside = c.self.inside.aside } in v)
+    (c.reserve.ensures.items ∙ c.events.view_is) c.is_disk-self-inside.ensures))
+
+pub returns-clause-lanes : goal.returns-clause-lanes
+returns-clause-lanes g c = rw (← c.self.view_is) (λ t.
     let s = rw (← c.self.view_is) at c.requires.stands in
     let f = rw (← c.self.view_is) at c.requires.follows in
-    let e = c.in-Ok-append_behind.ensures in
-    appends_ok _ c.args.entry.now _ (g.D.Disk.lane_of c.prepare.new.disk c.self.inside.lane) _ _ c.self.inside.gate c.as_slice.result.now (record {
-      stands = s t c.if-self.false;
-      room = c.in-Ok-prepare.ensures.room t;
-      place = c.self.invariant.0;
-      ok = f;
-      sound = c.in-Ok-prepare.ensures.sound;
-      text = c.as_slice.ensures ∙ c.in-Ok-prepare.ensures.bytes;
-      any_moment = c.append_behind.ensures.any_moment t;
-      picked = c.append_behind.ensures.picked t;
-      left = c.append_behind.ensures.left t;
-      reserved = c.append_behind.ensures.reserved t;
-      unset = c.append_behind.ensures.unset t;
-    }) tt (e.written t) (e.only t) (e.calls t) (e.breaks t))
+    appends_at _ c.args.entry.now (g.D.Disk.lane_of c.args.disk.now) (g.D.Disk.lane_of c.append_at.new.disk) c.number_of-lane.result (c.self.inside.size - 1) _ c.number_of-lane.ensures (c.append_at.ensures.others t)
+    c.shut_is.ensures c.two_are.ensures c.lower_is.ensures (s t c.if-self.false) (omega (arith, c.self.invariant.4)) f c.is_sound.ensures (extends_ok_as _ _ _ _ _ _ (c.in-Ok-append_at.ensures.extends t)))
 
--- No call is taken back
-
-pub returns-in-Err-prepare-clause-goes_on : goal.returns-in-Err-prepare-clause-goes_on
-returns-in-Err-prepare-clause-goes_on g c = λ t.
-    let same = ap (λ v. v.lane) c.self.view_is in
-    goes_on_same _ _ (rw same at (c.in-Err-prepare.ensures.err t))
-
--- What is kept
-
-pub joins_with-requires : goal.joins_with-requires
-joins_with-requires g c =
-    let f = rw (← c.self.view_is) at c.requires.follows in
-    may_there c.self.inside.standing c.self.inside.history.records c.args.entry.now c.self.invariant.1 f
-
-pub note-requires-clause-follows : goal.note-requires-clause-follows
-note-requires-clause-follows g c =
-    let f = rw (← c.self.view_is) at c.requires.follows in
-    may_there c.self.inside.standing c.self.inside.history.records c.args.entry.now c.self.invariant.1 f
+pub returns-clause-log : goal.returns-clause-log
+returns-clause-log g c = rw (← c.self.view_is)
+    (let r = c.args.entry.now in
+    let items : c.note_record.new.entries.items ≡ live_after c.self.inside.events r = c.note_record.ensures ∙ ap (λ (l : List Entry). live_after l r) (c.reserve.ensures.items ∙ c.events.view_is) in
+    let state : held_by c.note.new.self c.note_record.new.entries.items ≡ after_record (held_by c.self.inside.footing c.self.inside.events) r = ap₂ held_by c.note.ensures items in
+    let size : c.in-Ok-append_at.size ≡ c.self.inside.size + 1 + record_size r = omega (arith, c.in-Ok-append_at.ensures.size, c.self.invariant.4) in
+    leaves_ok _ _ _ _ _
+    (ap₂ (λ (s : LogState) (n : ℕ). let v : LogView = record { lane = c.self.inside.lane; state = s; broken = c.self.inside.broken; second = c.self.inside.second; generation = c.self.inside.generation; size = n; aside = c.self.inside.aside } in v) state size))
 
 pub note_record-requires-clause-rise : goal.note_record-requires-clause-rise
-note_record-requires-clause-rise g c =
-    live_is c.self.inside.standing.late c.self.inside.history.records c.reserve.new.self.items c.self.invariant.2 (c.reserve.ensures.items ∙ c.events.view_is ∙ c.self.invariant.3)
+note_record-requires-clause-rise g c = subst (EntriesRise 0) (sym (c.reserve.ensures.items ∙ c.events.view_is)) (entries_rise _ c.self.invariant.0)
 
 pub invariant_of-self-2 : goal.invariant_of-self-2
 invariant_of-self-2 g c =
     let f = rw (← c.self.view_is) at c.requires.follows in
-    log_more _ _ _ _ _ _ c.args.entry.now c.in-Ok-prepare.bytes.items _ _ c.self.invariant.0 c.self.invariant.1 c.self.invariant.2 c.self.invariant.3 f c.in-Ok-prepare.ensures.sound c.then-self-inside.ensures c.note.ensures (c.note_record.ensures ∙ ap (λ (l : List Entry). live_after l c.args.entry.now) (c.reserve.ensures.items ∙ c.events.view_is)) c.in-Ok-prepare.ensures.bytes (omega (arith, c.len.ensures))
+    let r = c.args.entry.now in
+    let items : c.note_record.new.entries.items ≡ live_after c.self.inside.events r = c.note_record.ensures ∙ ap (λ (l : List Entry). live_after l r) (c.reserve.ensures.items ∙ c.events.view_is) in
+    let state : held_by c.note.new.self c.note_record.new.entries.items ≡ after_record (held_by c.self.inside.footing c.self.inside.events) r = ap₂ held_by c.note.ensures items in (
+      subst IsState (sym state) (kept (held_by c.self.inside.footing c.self.inside.events) r c.self.invariant.0 f c.is_sound.ensures),
+      c.self.invariant.1,
+      c.self.invariant.2,
+      c.self.invariant.3,
+      omega (arith, c.in-Ok-append_at.ensures.size, c.self.invariant.4),
+    )
