@@ -1,7 +1,7 @@
--- A log's knowledge has at each tick what the log says, also after one more record
-use Rattle.std.proofs.Common.{◌≡◌, ◌≢◌, ◌⊎◌, inl, inr, ℕ, zero, suc, ◌+◌, ◌-◌, ◌≤◌, ◌<◌, Bool, true, false, ◌&&◌, List, [], ◌∷◌, ◌++◌, refl, sym, ap, ap₂, ◌∙◌, arith, eq-eqb}
+-- A log's knowledge has at each tick what the log says, also with what comes next
+use Rattle.std.proofs.Common.{◌≡◌, ◌≢◌, ◌⊎◌, inl, inr, ℕ, zero, suc, ◌-◌, ◌≤◌, ◌<◌, Bool, true, false, ◌&&◌, List, [], ◌∷◌, ◌++◌, refl, sym, ap, ap₂, ◌∙◌, arith, eq-eqb}
 use Rattle.std.specs.Prelude.{nat_eq, nat_le, nat_lt, if◌then◌else◌}
-use Rattle.std.proofs.lemmas.Bool.{cases_lt, cases_eq, ne_eqb, le-leb, lt-leb, leb-true, eqb-true, and_right, and_parts, and_from}
+use Rattle.std.proofs.lemmas.Bool.{cases_lt, cases_eq, ne_eqb, le-leb, lt-leb, ltb-false, and_right, and_from}
 use Rattle.gr_event.specs.declared.event.Event.{Event}
 use Rattle.gr_tick.specs.declared.run.Run.{Run}
 use Rattle.gr_tick.specs.Runs.{IsNone}
@@ -12,12 +12,10 @@ use Rattle.gr_know.specs.declared.values.K.{K}
 use Rattle.gr_know.specs.declared.values.K.TheVariants.{Q, S, D, F}
 use Rattle.gr_know.specs.Values.{Known, known_at, same_K, join_K}
 use Rattle.gr_know.proofs.ValueLaws.{K_decides}
-use Rattle.gr_publog.specs.declared.record.Record.{Record}
-use Rattle.gr_publog.specs.declared.record.Record.TheVariants as entry
-use Rattle.gr_publog.specs.declared.record.State.{State}
-use Rattle.gr_publog.specs.State.{Standing, first_standing, stands_after, after_record, joins_after, joins_from, joins_of, state_from, state_of, may_settle, may_enter, may_follow, Follow}
-use Rattle.gr_publog.proofs.Live.{settles}
-use Rattle.gr_pubend.specs.Log.{Log, empty_log, with_event, with_mark, with_cut, with_join, with_entry, log_from, log_of, event_at, log_at, event_points, log_know, silence, Stays}
+use Rattle.gr_publog.specs.declared.record.Entry.{Entry}
+use Rattle.gr_publog.specs.State.{EventsUpto, IsState}
+use Rattle.gr_publog.specs.Views.{LogView}
+use Rattle.gr_pubend.specs.Log.{Log, with_event, with_mark, with_cut, past, pairs, said, event_at, log_at, event_points, log_know, silence, Stays}
 
 -- The list of the log's knowledge
 
@@ -53,46 +51,7 @@ known_by log know g =
     let k = log_know-is log in
     given_runs Q know (log_know log) (log_at log) g k.runs k.same_at
 
--- One more record
-
--- the log goes on record by record
-pub log_more : (log : Log) (rs : List Record) (r : Record) → log_from log (rs ++ r ∷ []) ≡ with_entry (log_from log rs) r
-log_more log [] r = refl
-log_more log (q ∷ rs) r = log_more (with_entry log q) rs r
-
--- the log of records and one more is the log of the records with that one
-pub log_grows : (rs : List Record) (r : Record) → log_of (rs ++ r ∷ []) ≡ with_entry (log_of rs) r
-log_grows rs r = log_more empty_log rs r
-
--- behind an event it is the log with that event
-pub log_with_event : (rs : List Record) (tick number : ℕ) (e : Event) → log_of (rs ++ entry.Event tick number e ∷ []) ≡ with_event (log_of rs) tick e
-log_with_event rs tick number e = log_grows rs (entry.Event tick number e)
-
--- behind a mark, the log with that mark
-pub log_with_mark : (rs : List Record) (tick : ℕ) → log_of (rs ++ entry.Mark tick ∷ []) ≡ with_mark (log_of rs) tick
-log_with_mark rs tick = log_grows rs (entry.Mark tick)
-
--- behind a cut, the log with that cut
-pub log_with_cut : (rs : List Record) (tick : ℕ) → log_of (rs ++ entry.Cut tick ∷ []) ≡ with_cut (log_of rs) tick
-log_with_cut rs tick = log_grows rs (entry.Cut tick)
-
--- behind a join, the log with that join
-pub log_with_join : (rs : List Record) (tick s : ℕ) → log_of (rs ++ entry.Join tick s ∷ []) ≡ with_join (log_of rs) tick s
-log_with_join rs tick s = log_grows rs (entry.Join tick s)
-
-entry_joins : (log : Log) (r : Record) → (with_entry log r).joins ≡ joins_after log.joins r
-entry_joins log (entry.Event tick number e) = refl
-entry_joins log (entry.Mark tick) = refl
-entry_joins log (entry.Cut tick) = refl
-entry_joins log (entry.Join tick s) = refl
-
-joins_go_on : (log : Log) (rs : List Record) → (log_from log rs).joins ≡ joins_from log.joins rs
-joins_go_on log [] = refl
-joins_go_on log (r ∷ rs) = joins_go_on (with_entry log r) rs ∙ ap (λ js. joins_from js rs) (entry_joins log r)
-
--- the log has the joins of its records
-pub log_joins : (rs : List Record) → (log_of rs).joins ≡ joins_of rs
-log_joins rs = joins_go_on empty_log rs
+-- Events
 
 pub event_at-more : (events : List (ℕ × Event)) (tick t : ℕ) (e : Event) → tick ≢ t → event_at (events ++ (tick, e) ∷ []) t ≡ event_at events t
 event_at-more [] tick t e n = rw (ne_eqb tick t n) refl
@@ -109,57 +68,29 @@ event_at-new (x ∷ xs) t e h = by_test (nat_eq x.0 t) h (λ g. event_at-new xs 
     by_test true s i = absurd (not_there x.1 (event_at xs t) s)
     by_test false s i = i refl
 
--- the log goes on as its records do
-pub stays_more : (log : Log) (s : Standing) (r : Record) → Stays log s.state → may_follow s r ≡ true → Stays (with_entry log r) (after_record s.state r)
-stays_more log s (entry.Event tick number e) h m =
-    let k = and_parts (may_settle s.state tick) (nat_eq number (s.state.last + 1)) m in
-    let p = settles s.state tick k.0 in
-    record {
-      last = omega (arith, h.last, eqb-true number (s.state.last + 1) k.1);
-      settled = refl;
-      cut = h.cut;
-      within = omega (arith, h.within, h.settled, p.0);
-      upto = p.1;
-      none_past = λ t past. event_at-more log.events tick t e (λ q. omega (arith, past, q)) ∙ h.none_past t (omega (arith, h.settled, p.0, past));
-    }
-stays_more log s (entry.Mark tick) h m =
-    let p = settles s.state tick m in
-    record {
-      last = h.last;
-      settled = refl;
-      cut = h.cut;
-      within = omega (arith, h.within, h.settled, p.0);
-      upto = p.1;
-      none_past = λ t past. h.none_past t (omega (arith, h.settled, p.0, past));
-    }
-stays_more log s (entry.Cut tick) h m =
-    let k = and_parts (nat_lt s.state.cut tick) (nat_le tick s.state.settled) m in
-    record {
-      last = h.last;
-      settled = h.settled;
-      cut = refl;
-      within = omega (arith, h.settled, leb-true tick s.state.settled k.1);
-      upto = h.upto;
-      none_past = h.none_past;
-    }
-stays_more log s (entry.Join tick x) h m =
-    let k = and_parts (may_settle s.state tick) (may_enter s x) m in
-    let p = settles s.state tick k.0 in
-    record {
-      last = h.last;
-      settled = refl;
-      cut = h.cut;
-      within = omega (arith, h.within, h.settled, p.0);
-      upto = p.1;
-      none_past = λ t past. h.none_past t (omega (arith, h.settled, p.0, past));
-    }
+-- past a cut the events that it leaves are all that were there
+pub event_past : (cut t : ℕ) (xs : List (ℕ × Event)) → cut < t → event_at (past cut xs) t ≡ event_at xs t
+event_past cut t [] l = refl
+event_past cut t (x ∷ xs) l = go (nat_lt cut x.0) refl (event_past cut t xs l)
+  where
+    go : (a : Bool) → nat_lt cut x.0 ≡ a → event_at (past cut xs) t ≡ event_at xs t → event_at (if a then x ∷ past cut xs else past cut xs) t ≡ (if nat_eq x.0 t then D x.1 else event_at xs t)
+    go true y e = ap (λ (k : K). if nat_eq x.0 t then D x.1 else k) e
+    go false y e = e ∙ sym (ap (λ (c : Bool). if c then D x.1 else event_at xs t) (ne_eqb x.0 t (λ h. omega (arith, l, h, ltb-false cut x.0 y))))
 
-stays_from : (log : Log) (s : Standing) (rs : List Record) → Stays log s.state → Follow s rs → Stays (log_from log rs) (state_from s.state rs)
-stays_from log s [] h f = h
-stays_from log s (r ∷ rs) h f = stays_from (with_entry log r) (stands_after s r) rs (stays_more log s r h f.0) f.2
+-- whether the log forgets or not
+cut_event : (q : Bool) (cut t : ℕ) (xs : List (ℕ × Event)) → cut < t → event_at (if q then past cut xs else xs) t ≡ event_at xs t
+cut_event true cut t xs l = event_past cut t xs l
+cut_event false cut t xs l = refl
 
-pub stays_of : (late : List ℕ) (rs : List Record) → Follow (first_standing late) rs → Stays (log_of rs) (state_of rs)
-stays_of late rs f = stays_from empty_log (first_standing late) rs (record { last = refl; settled = refl; cut = refl; within = omega arith; upto = omega arith; none_past = λ t h. refl }) f
+-- none is past what is settled
+none_upto : (top t : ℕ) (es : List Entry) → EventsUpto top es → top < t → event_at (pairs es) t ≡ S
+none_upto top t [] u h = refl
+none_upto top t (e ∷ es) u h =
+    ap (λ b. if b then D e.event else event_at (pairs es) t) (ne_eqb e.tick t (λ z. omega (arith, z, h, u.0))) ∙ none_upto top t es u.1 h
+
+-- what is said of a log that is in order
+pub stays_of : (l : LogView) → IsState l.state → Stays (said l)
+stays_of l i = record { within = i.cut; upto = i.settled; none_past = λ t h. none_upto l.state.settled t l.state.events i.upto h }
 
 -- What the log says tick by tick
 
@@ -237,7 +168,7 @@ event_piece-past first tick t e h =
 pub log_at-live : (log : Log) (t : ℕ) → 1 ≤ t → t ≤ log.settled → log.cut < t → log_at log t ≡ event_at log.events t
 log_at-live log t a b c = log_at-in log t a b ∙ ap (λ x. if x then F else event_at log.events t) (lt-leb t log.cut c)
 
-module _ (log : Log) (s : State) (h : Stays log s) where
+module _ (log : Log) (h : Stays log) where
   pub at_event : (tick t : ℕ) (e : Event) → log.settled < tick → join_K (log_at log t) (known_at (up_to_event (suc log.settled) tick e) t) ≡ log_at (with_event log tick e) t
   at_event tick t e past = by_place (cases_lt t 1) (cases_lt log.settled t) (cases_lt t tick) (cases_eq tick t)
     where
@@ -287,11 +218,11 @@ module _ (log : Log) (s : State) (h : Stays log s) where
           ap (λ x. if x then F else log_at log t) (within_below 1 tick t a) ∙ log_at-zero log t a ∙ sym (log_at-zero (with_cut log tick) t a)
       by_place (inr a) b (inr c) =
           ap (λ x. if x then F else log_at log t) (within_in 1 tick t a c)
-          ∙ sym (log_at-in (with_cut log tick) t a (omega arith) ∙ ap (λ x. if x then F else event_at log.events t) (le-leb t tick c))
+          ∙ sym (log_at-in (with_cut log tick) t a (omega arith) ∙ ap (λ x. if x then F else event_at (with_cut log tick).events t) (le-leb t tick c))
       by_place (inr a) (inr b) (inl c) =
           ap (λ x. if x then F else log_at log t) (within_above 1 tick t c)
           ∙ log_at-live log t a b (omega arith)
-          ∙ sym (log_at-live (with_cut log tick) t a b c)
+          ∙ sym (log_at-live (with_cut log tick) t a b c ∙ cut_event log.forgets tick t log.events c)
       by_place (inr a) (inl b) (inl c) =
           ap (λ x. if x then F else log_at log t) (within_above 1 tick t c)
           ∙ log_at-past log t b

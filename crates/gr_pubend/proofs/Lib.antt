@@ -1,5 +1,6 @@
 pub mod Knowing
-pub mod News
 pub mod Standing
 pub mod Opening
 pub mod Found
+pub mod News
+pub mod Cuts

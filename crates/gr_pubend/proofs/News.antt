@@ -1,7 +1,7 @@
 -- What is learned with a record: with it the knowledge is that of the log with the record
-use Rattle.std.proofs.Common.{◌≡◌, ◌≢◌, ◌⊎◌, inl, inr, ℕ, ◌+◌, ◌-◌, ◌^◌, ◌≤◌, ◌<◌, Bool, true, false, ◌&&◌, List, [], ◌∷◌, ◌++◌, refl, sym, ap, ap₂, ◌∙◌, subst, arith}
-use Rattle.std.specs.Prelude.{nat_eq, nat_le, if◌then◌else◌}
-use Rattle.std.proofs.lemmas.Bool.{false≢true, and_parts, cases_lt, le-leb, lt-leb}
+use Rattle.std.proofs.Common.{◌≡◌, ◌≢◌, ◌⊎◌, inl, inr, ℕ, ◌+◌, ◌-◌, ◌^◌, ◌≤◌, ◌<◌, Bool, true, false, ◌&&◌, List, [], ◌∷◌, refl, sym, ap, ap₂, ◌∙◌, subst, arith}
+use Rattle.std.specs.Prelude.{nat_eq, nat_le, nat_lt, if◌then◌else◌}
+use Rattle.std.proofs.lemmas.Bool.{false≢true, and_parts, cases_lt, le-leb, lt-leb, ltb-true}
 use Rattle.gr_event.specs.declared.event.Event.{Event}
 use Rattle.gr_tick.specs.Runs.{AreRuns, is_in}
 use Rattle.gr_tick.specs.Stored.{within, EndBefore, RunsGive}
@@ -12,14 +12,14 @@ use Rattle.gr_know.specs.Values.{Known, known_at, join_K}
 use Rattle.gr_publog.specs.declared.record.Record.{Record}
 use Rattle.gr_publog.specs.declared.record.Record.TheVariants as entry
 use Rattle.gr_publog.specs.declared.record.State.{State}
-use Rattle.gr_publog.specs.State.{standing_of, state_of, may_settle, may_enter, may_follow}
-use Rattle.gr_pubend.specs.Log.{Log, with_entry, log_of, log_at, log_know, silence, Stays}
-use Rattle.gr_publog.specs.Crash.{LogView, with_record}
-use Rattle.gr_publog.proofs.Reading.{state_more}
-use Rattle.gr_publog.proofs.Live.{settles}
+use Rattle.gr_publog.specs.State.{LogState, numbers, footing, may_settle, may_enter, may_follow, max_tick}
+use Rattle.gr_publog.specs.Views.{LogView, appended, reclaimed}
+use Rattle.gr_pubend.specs.Log.{Log, said, with_cut, event_at, log_at, log_know, silence, Stays}
+use Rattle.gr_pubend.specs.Cuts.{cut_reclaims, cut_view}
 use Rattle.gr_pubend.specs.Answers.{IsNews}
-use Rattle.gr_pubend.specs.End.{EndView, grown}
-use Rattle.gr_pubend.proofs.Knowing.{log_know-is, known_by, log_grows, log_with_event, log_with_mark, log_with_cut, log_with_join, stays_more, within_above, silence_at, at_tick, up_to_event, at_event, at_mark, at_cut}
+use Rattle.gr_pubend.specs.End.{EndView, end_of}
+use Rattle.gr_pubend.proofs.Knowing.{log_know-is, known_by, within_above, silence_at, at_tick, up_to_event, at_event, at_mark, at_cut}
+use Rattle.gr_pubend.proofs.Found.{pairs_past, said_more}
 
 S≢Q : S ≢ Q
 S≢Q = λ e. cc
@@ -87,11 +87,15 @@ joined_with p q old room new s e g = record {
 -- What is known with one more record
 
 -- a record that brings what is new may follow
-pub news_follow : (late : List ℕ) (rs : List Record) (r : Record) (fresh : Known) → IsNews late rs r fresh → may_follow (standing_of late rs) r ≡ true
-news_follow late rs (entry.Event tick number v) fresh news = news.0
-news_follow late rs (entry.Mark tick) fresh news = news.0
-news_follow late rs (entry.Cut tick) fresh news = absurd news
-news_follow late rs (entry.Join tick s) fresh news = news.0
+pub news_follow : (state : LogState) (r : Record) (fresh : Known) → IsNews state r fresh → may_follow state r ≡ true
+news_follow state (entry.Event tick number v) fresh news = news.0
+news_follow state (entry.Mark tick) fresh news = news.0
+news_follow state (entry.Cut tick) fresh news = absurd news
+news_follow state (entry.Join tick s) fresh news = news.0
+
+-- a tick that may be settled is past what is
+pub settles : (s : State) (tick : ℕ) → may_settle s tick ≡ true → s.settled < tick
+settles s tick may = ltb-true s.settled tick (and_parts (nat_lt s.settled tick) (nat_le tick max_tick) may).0
 
 -- runs that a piece was joined to have what the join is said to have, and those with final ticks what these are said to have
 pub joined_says : (mine old fresh new : Known) (g : ℕ → K) → old ≡ mine → RunsGive Q new (λ t. join_K (known_at old t) (known_at fresh t)) → ((t : ℕ) → join_K (known_at mine t) (known_at fresh t) ≡ g t) → RunsGive Q new g
@@ -108,46 +112,42 @@ finished_says mine old new upto g e given says = record {
   values = λ t. given.values t ∙ ap (λ k. if within 1 upto t then F else known_at k t) e ∙ says t;
 }
 
-module _ (late : List ℕ) (rs : List Record) (know : Known) (e : know ≡ log_know (log_of rs)) (h : Stays (log_of rs) (state_of rs)) where
-  before : (t : ℕ) → known_at know t ≡ log_at (log_of rs) t
-  before t = ap (λ k. known_at k t) e ∙ (log_know-is (log_of rs)).same_at t
+module _ (l : LogView) (know : Known) (e : know ≡ log_know (said l)) (h : Stays (said l)) where
+  before : (t : ℕ) → known_at know t ≡ log_at (said l) t
+  before t = ap (λ k. known_at k t) e ∙ (log_know-is (said l)).same_at t
 
   -- with what is new of a record it is what the log with the record says
-  pub says_news : (r : Record) (fresh : Known) → IsNews late rs r fresh → (t : ℕ) → join_K (known_at know t) (known_at fresh t) ≡ log_at (log_of (rs ++ r ∷ [])) t
+  pub says_news : (r : Record) (fresh : Known) → IsNews l.state r fresh → (t : ℕ) → join_K (known_at know t) (known_at fresh t) ≡ log_at (said (appended r l)) t
   says_news (entry.Event tick number v) fresh news t =
-      let s = state_of rs in
-      let past : s.settled < tick = (settles s tick (and_parts (may_settle s tick) (nat_eq number (s.last + 1)) news.0).0).0 in
+      let past : l.state.settled < tick = settles (numbers l.state) tick (and_parts (may_settle (numbers l.state) tick) (nat_eq number (l.state.last + 1)) news.0).0 in
       ap₂ (λ k f. join_K k (known_at f t)) (before t) news.1
-      ∙ at_event (log_of rs) s h tick t v (omega (arith, h.settled, past))
-      ∙ sym (ap (λ (l : Log). log_at l t) (log_with_event rs tick number v))
+      ∙ at_event (said l) h tick t v past
+      ∙ sym (ap (λ (log : Log). log_at log t) (said_more l (entry.Event tick number v) news.0))
   says_news (entry.Mark tick) fresh news t =
-      let s = state_of rs in
-      let past : s.settled < tick = (settles s tick news.0).0 in
+      let past : l.state.settled < tick = settles (numbers l.state) tick news.0 in
       ap₂ (λ k f. join_K k (known_at f t)) (before t) news.1
-      ∙ at_mark (log_of rs) s h tick t (omega (arith, h.settled, past))
-      ∙ sym (ap (λ (l : Log). log_at l t) (log_with_mark rs tick))
+      ∙ at_mark (said l) h tick t (omega (arith, past))
   says_news (entry.Cut tick) fresh news t = absurd news
   says_news (entry.Join tick x) fresh news t =
-      let s = state_of rs in
-      let past : s.settled < tick = (settles s tick (and_parts (may_settle s tick) (may_enter (standing_of late rs) x) news.0).0).0 in
+      let past : l.state.settled < tick = settles (numbers l.state) tick (and_parts (may_settle (numbers l.state) tick) (may_enter (footing l.state) x) news.0).0 in
       ap₂ (λ k f. join_K k (known_at f t)) (before t) news.1
-      ∙ at_mark (log_of rs) s h tick t (omega (arith, h.settled, past))
-      ∙ sym (ap (λ (l : Log). log_at l t) (log_with_join rs tick x))
+      ∙ at_mark (said l) h tick t (omega (arith, past))
 
-  -- with all up to a tick final it is what the log with the cut says
-  pub says_cut : (tick : ℕ) → (state_of rs).cut < tick → tick ≤ (state_of rs).settled → (t : ℕ)
-      → (if within 1 tick t then F else known_at know t) ≡ log_at (log_of (rs ++ entry.Cut tick ∷ [])) t
-  says_cut tick past upto t =
+  -- a log that is cut says the same, whether it is written anew or not
+  cut_says : (b : Bool) (tick t : ℕ) → log_at (said (if b then reclaimed tick l else appended (entry.Cut tick) l)) t ≡ log_at (with_cut (said l) tick) t
+  cut_says b tick t = go b (ap (λ (es : List (ℕ × Event)). if nat_le 1 t && nat_le t l.state.settled then (if nat_le t tick then F else event_at es t) else Q) (pairs_past tick l.state.events))
+    where
+      go : (b : Bool) → log_at (said (appended (entry.Cut tick) l)) t ≡ log_at (with_cut (said l) tick) t → log_at (said (if b then reclaimed tick l else appended (entry.Cut tick) l)) t ≡ log_at (with_cut (said l) tick) t
+      go true same = same
+      go false same = same
+
+  -- with all up to a tick final it is what the log cut there says
+  pub says_cut : (reclaim tick : ℕ) → l.state.cut < tick → tick ≤ l.state.settled → (t : ℕ)
+      → (if within 1 tick t then F else known_at know t) ≡ log_at (said (cut_view reclaim tick l)) t
+  says_cut reclaim tick past upto t =
       ap (λ k. if within 1 tick t then F else k) (before t)
-      ∙ at_cut (log_of rs) (state_of rs) h tick t (omega (arith, h.cut, past)) (omega (arith, h.settled, upto))
-      ∙ sym (ap (λ (l : Log). log_at l t) (log_with_cut rs tick))
-
--- the invariant with one more record
-pub grows : (late : List ℕ) (rs : List Record) (r : Record) (new : Known) → Stays (log_of rs) (state_of rs) → may_follow (standing_of late rs) r ≡ true → RunsGive Q new (log_at (log_of (rs ++ r ∷ []))) → (new ≡ log_know (log_of (rs ++ r ∷ []))) × Stays (log_of (rs ++ r ∷ [])) (state_of (rs ++ r ∷ []))
-grows late rs r new h m g = (
-  known_by (log_of (rs ++ r ∷ [])) new g,
-  subst (λ (l : Log). Stays l (state_of (rs ++ r ∷ []))) (sym (log_grows rs r)) (subst (λ (s : State). Stays (with_entry (log_of rs) r) s) (sym (state_more rs r)) (stays_more (log_of rs) (standing_of late rs) r h m)),
-)
+      ∙ at_cut (said l) h tick t (omega (arith, past)) upto
+      ∙ sym (cut_says (cut_reclaims l reclaim) tick t)
 
 -- silence ends before a later tick
 pub silence_ends : (first last t : ℕ) → last < t → EndBefore (silence first last []) t
@@ -158,17 +158,17 @@ silence_ends first last t h = by_test (nat_le first last)
     by_test true = (h, tt)
     by_test false = tt
 
--- The endpoint with one more record
+-- The endpoint of a log
 
-pub grown_holds : (log log' : LogView) (r : Record) (new : Known) → Stays (log_of log.records) (state_of log.records) → may_follow (standing_of log.late log.records) r ≡ true → RunsGive Q new (log_at (log_of (log.records ++ r ∷ []))) → log' ≡ with_record r log
-    → (new ≡ log_know (log_of log'.records)) × Stays (log_of log'.records) (state_of log'.records)
-grown_holds log log' r new h m g e =
-    subst (λ (l : LogView). (new ≡ log_know (log_of l.records)) × Stays (log_of l.records) (state_of l.records)) (sym e) (grows log.late log.records r new h m g)
+-- what is known is that of the log
+pub end_holds : (log target : LogView) (new : Known) → RunsGive Q new (log_at (said target)) → log ≡ target → new ≡ log_know (said log)
+end_holds log target new g e = known_by (said target) new g ∙ ap (λ (l : LogView). log_know (said l)) (sym e)
 
-pub grown_is : (log log' : LogView) (r : Record) (mine new : Known) → RunsGive Q new (log_at (log_of (log.records ++ r ∷ []))) → log' ≡ with_record r log → ◌≡◌ {A = EndView} (record { log = log'; know = new }) (grown r (record { log = log; know = mine }))
-grown_is log log' r mine new g e =
+-- so it is the endpoint
+pub end_is : (log target : LogView) (new : Known) → RunsGive Q new (log_at (said target)) → log ≡ target → ◌≡◌ {A = EndView} (record { log = log; know = new }) (end_of target)
+end_is log target new g e =
     let make : LogView → Known → EndView = λ l k. record { log = l; know = k } in
-    ap₂ make e (known_by (log_of (log.records ++ r ∷ [])) new g)
+    ap₂ make e (known_by (said target) new g)
 
 -- what is known has at each tick what the log says
 pub known_gives : (log : Log) (know : Known) → know ≡ log_know log → AreRuns Q know → EndBefore know (2 ^ 62 + 1) → RunsGive Q know (log_at log)

@@ -1,20 +1,19 @@
 -- What a publish, a time of silence and a join are answered, the record that each logs, and what was planned
-use Rattle.std.specs.Prelude.{◌≡◌, ℕ, suc, ◌+◌, ◌-◌, max, true, false, nat_le, nat_lt, List, [], ◌∷◌, Option, Some}
-use Rattle.std.specs.Prelude.{None}
+use Rattle.std.specs.Prelude.{◌≡◌, ℕ, suc, ◌+◌, ◌-◌, max, true, false, nat_le, nat_lt, [], ◌∷◌, Option, Some, None}
 use Rattle.gr_event.specs.declared.event.Event.{Event}
 use Rattle.gr_event.specs.Joins.{has_joined}
 use Rattle.gr_know.specs.declared.values.K.TheVariants.{D}
 use Rattle.gr_know.specs.Values.{Known}
 use Rattle.gr_publog.specs.declared.record.Record.{Record}
 use Rattle.gr_publog.specs.declared.record.Record.TheVariants as entry
-use Rattle.gr_publog.specs.State.{max_tick, standing_of, may_follow}
+use Rattle.gr_publog.specs.State.{LogState, max_tick, may_follow}
 use Rattle.gr_pubend.specs.declared.answers.Published.{Published}
 use Rattle.gr_pubend.specs.declared.answers.Published.TheVariants.{Logged, Already, Gap, Exhausted}
 use Rattle.gr_pubend.specs.declared.answers.Quieted.{Quieted}
 use Rattle.gr_pubend.specs.declared.answers.Quieted.TheVariants.{NotYet, Marked}
 use Rattle.gr_pubend.specs.declared.answers.Joined.{Joined}
 use Rattle.gr_pubend.specs.declared.answers.Joined.TheVariants as joins
-use Rattle.gr_pubend.specs.Log.{Log, log_of, silence}
+use Rattle.gr_pubend.specs.Log.{Log, silence}
 
 -- a publish: said already, out of turn, past the last tick, or logged at its tick, with the silence before it
 unfoldable pub published : Log → ℕ → Event → ℕ → Published
@@ -68,39 +67,37 @@ abbrev pub join_of : Joined → ℕ → Option Record
 join_of (joins.Logged tick fresh) s = Some (entry.Join tick s)
 join_of _ s = None
 
--- the record that a publish logs behind these, the one that a time of silence logs, and the one that a join logs
-abbrev pub publish_logs : List Record → ℕ → Event → ℕ → Option Record
-publish_logs rs number e now = event_of (published (log_of rs) number e now) number e
+-- the record that a publish logs, the one that a time of silence logs, and the one that a join logs
+abbrev pub publish_logs : Log → ℕ → Event → ℕ → Option Record
+publish_logs log number e now = event_of (published log number e now) number e
 
-abbrev pub quiet_logs : List Record → ℕ → ℕ → Option Record
-quiet_logs rs now quiet = mark_of (quieted (log_of rs) now quiet)
+abbrev pub quiet_logs : Log → ℕ → ℕ → Option Record
+quiet_logs log now quiet = mark_of (quieted log now quiet)
 
-abbrev pub join_logs : List Record → ℕ → ℕ → Option Record
-join_logs rs s now = join_of (joined_at (log_of rs) s now) s
+abbrev pub join_logs : Log → ℕ → ℕ → Option Record
+join_logs log s now = join_of (joined_at log s now) s
 
--- What is new with a record that may follow these, where these subscribers may join: of an event the silence before it
--- and itself, of a mark and of a join the silence up to it. A cut brings nothing new.
-abbrev pub IsNews : List ℕ → List Record → Record → Known → Type 0
-IsNews late rs (entry.Event tick number e) fresh =
-    (may_follow (standing_of late rs) (entry.Event tick number e) ≡ true)
-    × (fresh ≡ silence (suc (log_of rs).settled) (tick - 1) (record { first = tick; last = tick; value = D e } ∷ []))
-IsNews late rs (entry.Mark tick) fresh =
-    (may_follow (standing_of late rs) (entry.Mark tick) ≡ true) × (fresh ≡ silence (suc (log_of rs).settled) tick [])
-IsNews late rs (entry.Cut tick) fresh = ⊥
-IsNews late rs (entry.Join tick s) fresh =
-    (may_follow (standing_of late rs) (entry.Join tick s) ≡ true) × (fresh ≡ silence (suc (log_of rs).settled) tick [])
+-- What is new with a record that may follow on a state: of an event the silence before it and itself, of a mark and of
+-- a join the silence up to it. A cut brings nothing new.
+abbrev pub IsNews : LogState → Record → Known → Type 0
+IsNews state (entry.Event tick number e) fresh =
+    (may_follow state (entry.Event tick number e) ≡ true)
+    × (fresh ≡ silence (suc state.settled) (tick - 1) (record { first = tick; last = tick; value = D e } ∷ []))
+IsNews state (entry.Mark tick) fresh =
+    (may_follow state (entry.Mark tick) ≡ true) × (fresh ≡ silence (suc state.settled) tick [])
+IsNews state (entry.Cut tick) fresh = ⊥
+IsNews state (entry.Join tick s) fresh =
+    (may_follow state (entry.Join tick s) ≡ true) × (fresh ≡ silence (suc state.settled) tick [])
 
--- An answer that was planned on these records: the event may follow them, whoever may join, and what is new is so
-abbrev pub IsPlanned : List Record → ℕ → Event → Published → Type 0
-IsPlanned rs number e (Logged tick fresh) = IsNews [] rs (entry.Event tick number e) fresh
-IsPlanned rs number e _ = Unit {0}
+-- an answer that was planned on a state: the event may follow, and what is new is so; the same of a mark and of a join
+abbrev pub IsPlanned : LogState → ℕ → Event → Published → Type 0
+IsPlanned state number e (Logged tick fresh) = IsNews state (entry.Event tick number e) fresh
+IsPlanned state number e _ = Unit {0}
 
--- the same of a mark
-abbrev pub IsPlannedMark : List Record → Quieted → Type 0
-IsPlannedMark rs (Marked tick fresh) = IsNews [] rs (entry.Mark tick) fresh
-IsPlannedMark rs _ = Unit {0}
+abbrev pub IsPlannedMark : LogState → Quieted → Type 0
+IsPlannedMark state (Marked tick fresh) = IsNews state (entry.Mark tick) fresh
+IsPlannedMark state _ = Unit {0}
 
--- the same of the join of a subscriber, where these may join
-abbrev pub IsPlannedJoin : List ℕ → List Record → ℕ → Joined → Type 0
-IsPlannedJoin late rs s (joins.Logged tick fresh) = IsNews late rs (entry.Join tick s) fresh
-IsPlannedJoin late rs s _ = Unit {0}
+abbrev pub IsPlannedJoin : LogState → ℕ → Joined → Type 0
+IsPlannedJoin state s (joins.Logged tick fresh) = IsNews state (entry.Join tick s) fresh
+IsPlannedJoin state s _ = Unit {0}

@@ -1,24 +1,13 @@
--- A log as it is found on its lane: its numbers, the events past its cut, its joins, and the place of its closed gate
-use Rattle.std.specs.Prelude.{◌≡◌, ℕ, ◌≤◌, ◌<◌, List, [], ◌∷◌, length}
+-- A log that is kept in two lanes: its order, and how what is said of it goes on with a record and with a cut
+use Rattle.std.specs.Prelude.{◌≡◌, ℕ, ◌≤◌, ◌<◌, true, List, [], ◌∷◌}
 use Rattle.std.specs.List.{AllByRecursion}
 use Rattle.gr_event.specs.declared.event.Event.{Event}
 use Rattle.gr_event.specs.Limits.{IsEvent}
 use Rattle.gr_publog.specs.declared.record.Record.{Record}
-use Rattle.gr_publog.specs.State.{first_standing, state_of, joins_of, live_events, Follow, max_tick}
-use Rattle.gr_publog.specs.Text.{front_text}
-use Rattle.gr_pubend.specs.Log.{Log, log_of, log_know}
-use Rattle.gr_pubend.specs.Opening.{pairs}
-
--- what a lane with these records is opened as
-abbrev pub found_of : List Record → Log
-found_of rs = record {
-  last = (state_of rs).last;
-  settled = (state_of rs).settled;
-  cut = (state_of rs).cut;
-  events = pairs (live_events rs);
-  joins = joins_of rs;
-  gate = length (front_text rs);
-}
+use Rattle.gr_publog.specs.State.{IsState, may_follow, max_tick}
+use Rattle.gr_publog.specs.Views.{LogView, appended, reclaimed}
+use Rattle.gr_pubend.specs.Log.{Log, said, with_entry, with_cut, filled_log, cut_log_at}
+use Rattle.gr_pubend.specs.Cuts.{cut_view}
 
 -- the ticks rise strictly from above a tick on
 abbrev pub PairsRise : ℕ → List (ℕ × Event) → Type 0
@@ -38,17 +27,17 @@ pub record IsSettled (log : Log) : Type 0 where
   pub cut : log.cut ≤ log.settled
   pub settled : log.settled ≤ max_tick
 
--- The laws, for all records, whoever may join
+-- The laws, for each log that is in order
 
--- the closed gate stands behind the text of the records, as the log that they make has it
-abbrev pub GateEndsText : Type 0
-GateEndsText = (rs : List Record) → (log_of rs).gate ≡ length (front_text rs)
+-- it is settled
+abbrev pub SaidIsSettled : Type 0
+SaidIsSettled = (l : LogView) → IsState l.state → IsSettled (said l)
 
--- what is known by the events past the cut is what is known by all records
-abbrev pub FoundKnows : Type 0
-FoundKnows = (late : List ℕ) (rs : List Record) → Follow (first_standing late) rs
-    → log_know (found_of rs) ≡ log_know (log_of rs)
-
--- records that may follow one another are found as a settled log
-abbrev pub FoundIsSettled : Type 0
-FoundIsSettled = (late : List ℕ) (rs : List Record) → Follow (first_standing late) rs → IsSettled (found_of rs)
+-- it goes on record by record, and by cuts
+pub record SaidGoesOn : Type 0 where
+  pub appended : (l : LogView) (r : Record) → may_follow l.state r ≡ true
+      → said (appended r l) ≡ with_entry (said l) r
+  pub reclaimed : (l : LogView) (tick : ℕ) → IsState l.state
+      → said (reclaimed tick l) ≡ filled_log (with_cut (said l) tick)
+  pub cut : (reclaim : ℕ) (l : LogView) (tick : ℕ) → IsState l.state
+      → said (cut_view reclaim tick l) ≡ cut_log_at reclaim (said l) tick

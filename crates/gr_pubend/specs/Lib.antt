@@ -1,5 +1,6 @@
 pub mod Log
 pub mod Answers
+pub mod Cuts
 pub mod End
 pub mod Opening
 pub mod Found

@@ -1,18 +1,13 @@
-//! Laws of the logs that are found on a lane: each is the contract of a function that does nothing.
+//! Laws of what is said of a log: each is the contract of a function that does nothing.
 
-ghost use Rattle.gr_pubend.specs.Found.{GateEndsText, FoundKnows, FoundIsSettled};
+ghost use Rattle.gr_pubend.specs.Found.{SaidIsSettled, SaidGoesOn};
 
-/// The gate of a log stands where the text of its records ends.
-pub fn gate_ends_text()
-    ensures { GateEndsText }
+/// What is said of a log rises from its cut up to what is settled, within the limits.
+pub fn said_is_settled()
+    ensures { SaidIsSettled }
 {}
 
-/// What was cut adds nothing to what is known.
-pub fn found_knows_all()
-    ensures { FoundKnows }
-{}
-
-/// What is found of a lane's records rises from the cut up to what is settled, within the limits.
-pub fn found_is_settled()
-    ensures { FoundIsSettled }
+/// What is said of a log goes on with each record, and with each cut.
+pub fn said_goes_on()
+    ensures { SaidGoesOn }
 {}

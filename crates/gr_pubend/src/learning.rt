@@ -5,7 +5,7 @@ ghost use Rattle.gr_tick.specs.declared.TheConstants.{MAX_TICK};
 ghost use Rattle.gr_tick.specs.Stored.{within, RunsGive, EndBefore, needed};
 ghost use Rattle.gr_know.specs.Values.{known_at, join_K};
 ghost use Rattle.gr_know.specs.declared.values.K.TheVariants.{Q, S, D, F};
-ghost use Rattle.gr_pubend.specs.Log.{log_of, log_at, log_know, silence};
+ghost use Rattle.gr_pubend.specs.Log.{said, log_at, log_know, silence};
 ghost use Rattle.gr_pubend.specs.Opening.{last_tick, EntriesRise, seen};
 
 use gr_event::Event;
@@ -140,8 +140,8 @@ fn learn_events(alloc: Global, know: &mut Know, cut: u64, events: &Entries) -> R
 /// What is known by a log: up to its cut all is final, then the logged events are known with silence between them up to
 /// the last settled tick, and nothing past that. It fails only where memory is refused.
 pub fn known_by(alloc: Global, log: &Log) -> Result<Know, Memory>
-    ensures known { IfOk result (λ know. know.runs ≡ log_know (log_of log.now.records)) }
-    ensures each { IfOk result (λ know. RunsGive Q know.runs (log_at (log_of log.now.records))) }
+    ensures known { IfOk result (λ know. know.runs ≡ log_know (said log.now)) }
+    ensures each { IfOk result (λ know. RunsGive Q know.runs (log_at (said log.now))) }
 {
     let _ = log.is_broken();
     let cut = log.cut();

@@ -2,12 +2,14 @@
 #![tactic(auto)]
 
 pub mod answers;
+pub mod cutting;
 pub mod law;
 mod learning;
 mod planning;
 mod pubend;
 
 pub use answers::{Joined, Published, Quieted};
+pub use cutting::{Cutting, cut_log, plan_cut};
 pub use learning::known_by;
 pub use planning::{plan, plan_join, plan_quiet};
 pub use pubend::Pubend;

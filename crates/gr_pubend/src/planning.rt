@@ -2,7 +2,7 @@
 
 ghost use Rattle.std.specs.Prelude.{◌≡◌, ◌≤◌, true, nat_eq, IsErr, IsSome, IfOk};
 ghost use Rattle.std.specs.List.{list_any};
-ghost use Rattle.gr_pubend.specs.Log.{log_of};
+ghost use Rattle.gr_pubend.specs.Log.{said};
 ghost use Rattle.gr_pubend.specs.Answers.{published, quieted, joined_at, publish_logs, quiet_logs, join_logs};
 ghost use Rattle.gr_pubend.specs.Answers.{IsPlanned, IsPlannedMark, IsPlannedJoin};
 
@@ -26,11 +26,11 @@ pub fn plan(
     now: u64,
 ) -> Result<Published, Memory>
     requires now { now ≤ MAX_TICK }
-    ensures answer { IfOk result (λ answer. answer ≡ published (log_of log.now.records) number event.now now) }
-    ensures planned { IfOk result (λ answer. IsPlanned log.now.records number event.now answer) }
-    ensures wants { IsErr result → IsSome (publish_logs log.now.records number event.now now) }
+    ensures answer { IfOk result (λ answer. answer ≡ published (said log.now) number event.now now) }
+    ensures planned { IfOk result (λ answer. IsPlanned log.now.state number event.now answer) }
+    ensures wants { IsErr result → IsSome (publish_logs (said log.now) number event.now now) }
 {
-    // Proof only: the records follow one another.
+    // Proof only: what the log holds is in order.
     let _ = log.is_broken();
     let last = log.last();
     if number <= last {
@@ -55,11 +55,11 @@ pub fn plan(
 pub fn plan_quiet(alloc: Global, log: &Log, now: u64, quiet: u64) -> Result<Quieted, Memory>
     requires now { now ≤ MAX_TICK }
     requires some { 1 ≤ quiet }
-    ensures answer { IfOk result (λ answer. answer ≡ quieted (log_of log.now.records) now quiet) }
-    ensures planned { IfOk result (λ answer. IsPlannedMark log.now.records answer) }
-    ensures wants { IsErr result → IsSome (quiet_logs log.now.records now quiet) }
+    ensures answer { IfOk result (λ answer. answer ≡ quieted (said log.now) now quiet) }
+    ensures planned { IfOk result (λ answer. IsPlannedMark log.now.state answer) }
+    ensures wants { IsErr result → IsSome (quiet_logs (said log.now) now quiet) }
 {
-    // Proof only: the records follow one another.
+    // Proof only: what the log holds is in order.
     let _ = log.is_broken();
     let settled = log.settled();
     if now.saturating_sub(settled) < quiet {
@@ -78,12 +78,12 @@ pub fn plan_quiet(alloc: Global, log: &Log, now: u64, quiet: u64) -> Result<Quie
 /// tick left the publisher is `Exhausted`.
 pub fn plan_join(alloc: Global, log: &Log, s: u16, now: u64) -> Result<Joined, Memory>
     requires now { now ≤ MAX_TICK }
-    requires late { list_any (λ x. nat_eq x s) log.now.late ≡ true }
-    ensures answer { IfOk result (λ answer. answer ≡ joined_at (log_of log.now.records) s now) }
-    ensures planned { IfOk result (λ answer. IsPlannedJoin log.now.late log.now.records s answer) }
-    ensures wants { IsErr result → IsSome (join_logs log.now.records s now) }
+    requires late { list_any (λ x. nat_eq x s) log.now.state.late ≡ true }
+    ensures answer { IfOk result (λ answer. answer ≡ joined_at (said log.now) s now) }
+    ensures planned { IfOk result (λ answer. IsPlannedJoin log.now.state s answer) }
+    ensures wants { IsErr result → IsSome (join_logs (said log.now) s now) }
 {
-    // Proof only: the records follow one another.
+    // Proof only: what the log holds is in order.
     let _ = log.is_broken();
     let joined = log.joins().has(s);
     if joined {

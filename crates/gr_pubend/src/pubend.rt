@@ -1,28 +1,33 @@
 //! A log, and what is known by it.
 
-ghost use Rattle.std.specs.Prelude.{◌≡◌, ◌≢◌, ◌↔◌, ℕ, ◌≤◌, ◌<◌, true, false, Some, None, Err, IsErr, IsSome, IfOk};
-ghost use Rattle.std.specs.Prelude.{OnOk, IsErrOf, nat_eq, length};
+ghost use Rattle.std.specs.Prelude.{◌≡◌, ◌≢◌, ◌↔◌, ℕ, ◌+◌, ◌^◌, ◌≤◌, ◌<◌, ◌||◌, true, false, Some, None, Err, IsErr};
+ghost use Rattle.std.specs.Prelude.{IsSome, IfOk, OnOk, IsErrOf, nat_eq, length};
 ghost use Rattle.std.specs.List.{list_any};
 ghost use Rattle.gr_event.specs.declared.limits.TheConstants.{MAX_JOINS};
+ghost use Rattle.gr_out.specs.Lane.{has_stopped};
 ghost use Rattle.gr_out.specs.Stops.{StaysFaultless};
 ghost use Rattle.gr_tick.specs.declared.TheConstants.{MAX_TICK};
 ghost use Rattle.gr_tick.specs.Stored.{RunsGive};
 ghost use Rattle.gr_know.specs.declared.values.K.TheVariants.{Q};
-ghost use Rattle.gr_publog.specs.State.{state_of};
-ghost use Rattle.gr_publog.specs.Calls.{IsReady, Appends, Opens, Tally, Causes, Leaves};
+ghost use Rattle.gr_publog.specs.Views.{lanes_at, AwayFrom, IsReady};
+ghost use Rattle.gr_publog.specs.Opens.{Opens};
+ghost use Rattle.gr_publog.specs.Calls.{Appends, Tally, Causes, Leaves};
 ghost use Rattle.gr_publog.specs.declared.record.LogFault.TheVariants.{Memory as WantOfMemory, Disk as DiskFailed};
 ghost use Rattle.gr_publog.specs.declared.record.LogFault.TheVariants.{Reopen as MustReopen};
-ghost use Rattle.gr_pubend.specs.Log.{log_of, log_at, log_know};
+ghost use Rattle.gr_pubend.specs.Log.{said, log_at, log_know};
 ghost use Rattle.gr_pubend.specs.Answers.{published, quieted, joined_at, publish_logs, quiet_logs, join_logs, IsNews};
 ghost use Rattle.gr_pubend.specs.Answers.{IsPlanned, IsPlannedMark, IsPlannedJoin};
-ghost use Rattle.gr_pubend.specs.End.{grown, after_call, broken_end, log_result};
+ghost use Rattle.gr_pubend.specs.Cuts.{Cuts, cutting_of, cut_lane};
+ghost use Rattle.gr_pubend.specs.End.{grown, cut_end, after_call, broken_end, log_result, present_lane};
 
 use crate::answers::{Joined, Published, Quieted};
+use crate::cutting::{Cutting, cut_log};
 use crate::learning::{known_by, make_room};
 use crate::planning::{plan, plan_join, plan_quiet};
 use gr_event::Event;
 use gr_know::{K, Know};
 use gr_out::Disk;
+use gr_publog::law::stands_read;
 use gr_publog::{Log, LogFault, Memory, Record};
 use gr_tick::Piece;
 use std::alloc::Global;
@@ -39,43 +44,43 @@ pub struct Pubend {
 
 impl Model for Pubend {
     ghost use Rattle.std.specs.Prelude.{◌≡◌};
-    ghost use Rattle.gr_publog.specs.State.{state_of};
-    ghost use Rattle.gr_pubend.specs.Log.{log_of, log_know, Stays};
+    ghost use Rattle.gr_pubend.specs.Log.{said, log_know};
     ghost use Rattle.gr_pubend.specs.End.{EndView};
 
     ghost Value = { EndView };
 
     ghost view = { λ p. record { log = p.log; know = p.know.runs } };
 
-    ghost invariant = { λ p. (p.know.runs ≡ log_know (log_of p.log.records)) ×
-        Stays (log_of p.log.records) (state_of p.log.records) };
+    ghost invariant = { λ p. p.know.runs ≡ log_know (said p.log) };
 }
 
 impl Pubend {
-    /// Opens the endpoint of a lane, in whose log these subscribers may join: the log, and what is known by it.
-    /// `Damaged` comes exactly where the lane holds no log of theirs, and `Disk` only where the disk failed in this
-    /// call. It never answers `Reopen`.
+    /// Opens the endpoint of a log in the two lanes from this one on, in which these subscribers may join: the log, and
+    /// what is known by it. `Damaged` comes exactly where the lanes hold no log of theirs, and `Disk` only where the
+    /// disk failed in this call. It never answers `Reopen`.
     pub fn open<D: Disk>(
         alloc: Global,
         disk: &mut D,
         lane: u16,
         late: &[u16],
     ) -> Result<Pubend, LogFault>
+        requires two { lane + 1 < 2 ^ 16 }
         requires late { length late.now ≤ MAX_JOINS }
-        ensures opens { let l = D.lane_of disk.old lane in
-            D.tells → Opens late.now l (D.lane_of disk.new lane) (log_result result) }
-        ensures late { IfOk result (λ p. p.log.late ≡ late.now) }
+        ensures opens { let before = lanes_at (D.lane_of disk.old) lane in
+            D.tells → Opens late.now lane before (lanes_at (D.lane_of disk.new) lane) (log_result result) }
+        ensures late { IfOk result (λ p. p.log.state.late ≡ late.now) }
         ensures lane { IfOk result (λ p. p.log.lane ≡ lane) }
         ensures whole { IfOk result (λ p. p.log.broken ≡ false) }
-        ensures known { IfOk result (λ p. p.know ≡ log_know (log_of p.log.records)) }
+        ensures known { IfOk result (λ p. p.know ≡ log_know (said p.log)) }
         ensures never_reopen { result ≢ Err LogFault.Reopen }
         ensures tally { let f = D.faults disk.old in let s = D.stops disk.old in
             Tally f s (D.faults disk.new) (D.stops disk.new) result }
         ensures causes { let f = D.faults disk.old in let f' = D.faults disk.new in
-            D.tells → Causes (D.faultless disk.old) (D.lane_of disk.new lane) f f' result }
+            let ls = lanes_at (D.lane_of disk.new) lane in D.tells → Causes (D.faultless disk.old)
+            (has_stopped ls.first.stop || has_stopped ls.second.stop) f f' result }
         ensures faultless { let f = D.faults disk.old in
             StaysFaultless (D.faultless disk.old) (D.faultless disk.new) f (D.faults disk.new) }
-        ensures others { D.tells → (n : ℕ) → n ≢ lane → D.lane_of disk.new n ≡ D.lane_of disk.old n }
+        ensures others { D.tells → (n : ℕ) → AwayFrom lane n → D.lane_of disk.new n ≡ D.lane_of disk.old n }
     {
         let log = match Log::open(alloc, disk, lane, late) {
             Ok(log) => log,
@@ -95,9 +100,9 @@ impl Pubend {
     /// past the next is out of turn (`Gap`); with no tick left the publisher is `Exhausted`.
     pub fn plan(&self, number: u64, event: &Event, now: u64) -> Result<Published, Memory>
         requires now { now ≤ MAX_TICK }
-        ensures answer { IfOk result (λ answer. answer ≡ published (log_of self.now.log.records) number event.now now) }
-        ensures planned { IfOk result (λ answer. IsPlanned self.now.log.records number event.now answer) }
-        ensures wants { IsErr result → IsSome (publish_logs self.now.log.records number event.now now) }
+        ensures answer { IfOk result (λ answer. answer ≡ published (said self.now.log) number event.now now) }
+        ensures planned { IfOk result (λ answer. IsPlanned self.now.log.state number event.now answer) }
+        ensures wants { IsErr result → IsSome (publish_logs (said self.now.log) number event.now now) }
     {
         plan(self.alloc, &self.log, number, event, now)
     }
@@ -107,9 +112,9 @@ impl Pubend {
     pub fn plan_quiet(&self, now: u64, quiet: u64) -> Result<Quieted, Memory>
         requires now { now ≤ MAX_TICK }
         requires some { 1 ≤ quiet }
-        ensures answer { IfOk result (λ answer. answer ≡ quieted (log_of self.now.log.records) now quiet) }
-        ensures planned { IfOk result (λ answer. IsPlannedMark self.now.log.records answer) }
-        ensures wants { IsErr result → IsSome (quiet_logs self.now.log.records now quiet) }
+        ensures answer { IfOk result (λ answer. answer ≡ quieted (said self.now.log) now quiet) }
+        ensures planned { IfOk result (λ answer. IsPlannedMark self.now.log.state answer) }
+        ensures wants { IsErr result → IsSome (quiet_logs (said self.now.log) now quiet) }
     {
         plan_quiet(self.alloc, &self.log, now, quiet)
     }
@@ -121,10 +126,10 @@ impl Pubend {
     /// no tick left the publisher is `Exhausted`.
     pub fn plan_join(&self, s: u16, now: u64) -> Result<Joined, Memory>
         requires now { now ≤ MAX_TICK }
-        requires late { list_any (λ x. nat_eq x s) self.now.log.late ≡ true }
-        ensures answer { IfOk result (λ answer. answer ≡ joined_at (log_of self.now.log.records) s now) }
-        ensures planned { IfOk result (λ answer. IsPlannedJoin self.now.log.late self.now.log.records s answer) }
-        ensures wants { IsErr result → IsSome (join_logs self.now.log.records s now) }
+        requires late { list_any (λ x. nat_eq x s) self.now.log.state.late ≡ true }
+        ensures answer { IfOk result (λ answer. answer ≡ joined_at (said self.now.log) s now) }
+        ensures planned { IfOk result (λ answer. IsPlannedJoin self.now.log.state s answer) }
+        ensures wants { IsErr result → IsSome (join_logs (said self.now.log) s now) }
     {
         plan_join(self.alloc, &self.log, s, now)
     }
@@ -142,29 +147,32 @@ impl Pubend {
         now: u64,
     ) -> Result<Published, LogFault>
         requires now { now ≤ MAX_TICK }
-        requires stands { D.tells → IsReady self.old.log (D.lane_of disk.old self.old.log.lane) }
-        ensures answer { IfOk result (λ answer. answer ≡ published (log_of self.old.log.records) number event.now now) }
-        ensures end { let logged = publish_logs self.old.log.records number event.now now in
+        requires stands { D.tells → IsReady self.old.log (lanes_at (D.lane_of disk.old) self.old.log.lane) }
+        ensures answer { IfOk result (λ answer. answer ≡ published (said self.old.log) number event.now now) }
+        ensures end { let logged = publish_logs (said self.old.log) number event.now now in
             Leaves self.old (after_call logged self.old) (broken_end self.old) self.new result }
         ensures goes_on { OnOk result
             ((self.new.log.lane ≡ self.old.log.lane) × (self.new.log.broken ≡ self.old.log.broken)) }
-        ensures lane { let l = self.old.log in let before = D.lane_of disk.old l.lane in
-            let logged = publish_logs self.old.log.records number event.now now in
-            D.tells → Appends l logged before (D.lane_of disk.new l.lane) result }
-        ensures reopen { let logged = publish_logs self.old.log.records number event.now now in
+        ensures lanes { let l = self.old.log in let before = lanes_at (D.lane_of disk.old) l.lane in
+            let logged = publish_logs (said self.old.log) number event.now now in
+            D.tells → Appends l logged before (lanes_at (D.lane_of disk.new) l.lane) result }
+        ensures reopen { let logged = publish_logs (said self.old.log) number event.now now in
             IsErrOf result LogFault.Reopen ↔ ((self.old.log.broken ≡ true) × IsSome logged) }
         ensures idle { IsErrOf result LogFault.Reopen → disk.new ≡ disk.old }
-        ensures untouched { let logged = publish_logs self.old.log.records number event.now now in
+        ensures untouched { let logged = publish_logs (said self.old.log) number event.now now in
             logged ≡ None → disk.new ≡ disk.old }
         ensures tally { let f = D.faults disk.old in let s = D.stops disk.old in
             Tally f s (D.faults disk.new) (D.stops disk.new) result }
         ensures causes { let f = D.faults disk.old in let f' = D.faults disk.new in
-            D.tells → Causes (D.faultless disk.old) (D.lane_of disk.new self.old.log.lane) f f' result }
+            let lane = D.lane_of disk.new (present_lane self.old.log) in
+            D.tells → Causes (D.faultless disk.old) (has_stopped lane.stop) f f' result }
         ensures faultless { let f = D.faults disk.old in
             StaysFaultless (D.faultless disk.old) (D.faultless disk.new) f (D.faults disk.new) }
-        ensures others { let lane = self.old.log.lane in
-            D.tells → (n : ℕ) → n ≢ lane → D.lane_of disk.new n ≡ D.lane_of disk.old n }
+        ensures others { D.tells →
+            (n : ℕ) → AwayFrom self.old.log.lane n → D.lane_of disk.new n ≡ D.lane_of disk.old n }
     {
+        // Proof only: where nothing is logged the lanes hold what they held.
+        stands_read();
         let answer = match self.plan(number, event, now) {
             Ok(answer) => answer,
             Err(_) => {
@@ -201,29 +209,32 @@ impl Pubend {
     ) -> Result<Quieted, LogFault>
         requires now { now ≤ MAX_TICK }
         requires some { 1 ≤ quiet }
-        requires stands { D.tells → IsReady self.old.log (D.lane_of disk.old self.old.log.lane) }
-        ensures answer { IfOk result (λ answer. answer ≡ quieted (log_of self.old.log.records) now quiet) }
-        ensures end { let logged = quiet_logs self.old.log.records now quiet in
+        requires stands { D.tells → IsReady self.old.log (lanes_at (D.lane_of disk.old) self.old.log.lane) }
+        ensures answer { IfOk result (λ answer. answer ≡ quieted (said self.old.log) now quiet) }
+        ensures end { let logged = quiet_logs (said self.old.log) now quiet in
             Leaves self.old (after_call logged self.old) (broken_end self.old) self.new result }
         ensures goes_on { OnOk result
             ((self.new.log.lane ≡ self.old.log.lane) × (self.new.log.broken ≡ self.old.log.broken)) }
-        ensures lane { let l = self.old.log in let before = D.lane_of disk.old l.lane in
-            let logged = quiet_logs self.old.log.records now quiet in
-            D.tells → Appends l logged before (D.lane_of disk.new l.lane) result }
-        ensures reopen { let logged = quiet_logs self.old.log.records now quiet in
+        ensures lanes { let l = self.old.log in let before = lanes_at (D.lane_of disk.old) l.lane in
+            let logged = quiet_logs (said self.old.log) now quiet in
+            D.tells → Appends l logged before (lanes_at (D.lane_of disk.new) l.lane) result }
+        ensures reopen { let logged = quiet_logs (said self.old.log) now quiet in
             IsErrOf result LogFault.Reopen ↔ ((self.old.log.broken ≡ true) × IsSome logged) }
         ensures idle { IsErrOf result LogFault.Reopen → disk.new ≡ disk.old }
-        ensures untouched { let logged = quiet_logs self.old.log.records now quiet in
+        ensures untouched { let logged = quiet_logs (said self.old.log) now quiet in
             logged ≡ None → disk.new ≡ disk.old }
         ensures tally { let f = D.faults disk.old in let s = D.stops disk.old in
             Tally f s (D.faults disk.new) (D.stops disk.new) result }
         ensures causes { let f = D.faults disk.old in let f' = D.faults disk.new in
-            D.tells → Causes (D.faultless disk.old) (D.lane_of disk.new self.old.log.lane) f f' result }
+            let lane = D.lane_of disk.new (present_lane self.old.log) in
+            D.tells → Causes (D.faultless disk.old) (has_stopped lane.stop) f f' result }
         ensures faultless { let f = D.faults disk.old in
             StaysFaultless (D.faultless disk.old) (D.faultless disk.new) f (D.faults disk.new) }
-        ensures others { let lane = self.old.log.lane in
-            D.tells → (n : ℕ) → n ≢ lane → D.lane_of disk.new n ≡ D.lane_of disk.old n }
+        ensures others { D.tells →
+            (n : ℕ) → AwayFrom self.old.log.lane n → D.lane_of disk.new n ≡ D.lane_of disk.old n }
     {
+        // Proof only: where nothing is logged the lanes hold what they held.
+        stands_read();
         let answer = match self.plan_quiet(now, quiet) {
             Ok(answer) => answer,
             Err(_) => {
@@ -250,30 +261,33 @@ impl Pubend {
     /// the silence up to it is known, which is answered. Faults are those of `publish`.
     pub fn join<D: Disk>(&mut self, disk: &mut D, s: u16, now: u64) -> Result<Joined, LogFault>
         requires now { now ≤ MAX_TICK }
-        requires late { list_any (λ x. nat_eq x s) self.old.log.late ≡ true }
-        requires stands { D.tells → IsReady self.old.log (D.lane_of disk.old self.old.log.lane) }
-        ensures answer { IfOk result (λ answer. answer ≡ joined_at (log_of self.old.log.records) s now) }
-        ensures end { let logged = join_logs self.old.log.records s now in
+        requires late { list_any (λ x. nat_eq x s) self.old.log.state.late ≡ true }
+        requires stands { D.tells → IsReady self.old.log (lanes_at (D.lane_of disk.old) self.old.log.lane) }
+        ensures answer { IfOk result (λ answer. answer ≡ joined_at (said self.old.log) s now) }
+        ensures end { let logged = join_logs (said self.old.log) s now in
             Leaves self.old (after_call logged self.old) (broken_end self.old) self.new result }
         ensures goes_on { OnOk result
             ((self.new.log.lane ≡ self.old.log.lane) × (self.new.log.broken ≡ self.old.log.broken)) }
-        ensures lane { let l = self.old.log in let before = D.lane_of disk.old l.lane in
-            let logged = join_logs self.old.log.records s now in
-            D.tells → Appends l logged before (D.lane_of disk.new l.lane) result }
-        ensures reopen { let logged = join_logs self.old.log.records s now in
+        ensures lanes { let l = self.old.log in let before = lanes_at (D.lane_of disk.old) l.lane in
+            let logged = join_logs (said self.old.log) s now in
+            D.tells → Appends l logged before (lanes_at (D.lane_of disk.new) l.lane) result }
+        ensures reopen { let logged = join_logs (said self.old.log) s now in
             IsErrOf result LogFault.Reopen ↔ ((self.old.log.broken ≡ true) × IsSome logged) }
         ensures idle { IsErrOf result LogFault.Reopen → disk.new ≡ disk.old }
-        ensures untouched { let logged = join_logs self.old.log.records s now in
+        ensures untouched { let logged = join_logs (said self.old.log) s now in
             logged ≡ None → disk.new ≡ disk.old }
         ensures tally { let f = D.faults disk.old in let s = D.stops disk.old in
             Tally f s (D.faults disk.new) (D.stops disk.new) result }
         ensures causes { let f = D.faults disk.old in let f' = D.faults disk.new in
-            D.tells → Causes (D.faultless disk.old) (D.lane_of disk.new self.old.log.lane) f f' result }
+            let lane = D.lane_of disk.new (present_lane self.old.log) in
+            D.tells → Causes (D.faultless disk.old) (has_stopped lane.stop) f f' result }
         ensures faultless { let f = D.faults disk.old in
             StaysFaultless (D.faultless disk.old) (D.faultless disk.new) f (D.faults disk.new) }
-        ensures others { let lane = self.old.log.lane in
-            D.tells → (n : ℕ) → n ≢ lane → D.lane_of disk.new n ≡ D.lane_of disk.old n }
+        ensures others { D.tells →
+            (n : ℕ) → AwayFrom self.old.log.lane n → D.lane_of disk.new n ≡ D.lane_of disk.old n }
     {
+        // Proof only: where nothing is logged the lanes hold what they held.
+        stands_read();
         let answer = match self.plan_join(s, now) {
             Ok(answer) => answer,
             Err(_) => {
@@ -307,24 +321,26 @@ impl Pubend {
         tick: u64,
         fresh: &Piece<K>,
     ) -> Result<(), LogFault>
-        requires planned { IsPlanned self.old.log.records number event.now (Published.Logged tick fresh.now) }
-        requires stands { D.tells → IsReady self.old.log (D.lane_of disk.old self.old.log.lane) }
+        requires planned { IsPlanned self.old.log.state number event.now (Published.Logged tick fresh.now) }
+        requires stands { D.tells → IsReady self.old.log (lanes_at (D.lane_of disk.old) self.old.log.lane) }
         ensures end { let logged = grown (Record.Event tick number event.now) self.old in
             Leaves self.old logged (broken_end self.old) self.new result }
         ensures goes_on { OnOk result
             ((self.new.log.lane ≡ self.old.log.lane) × (self.new.log.broken ≡ self.old.log.broken)) }
-        ensures lane { let l = self.old.log in let before = D.lane_of disk.old l.lane in
-            D.tells → Appends l (Some (Record.Event tick number event.now)) before (D.lane_of disk.new l.lane) result }
+        ensures lanes { let l = self.old.log in let before = lanes_at (D.lane_of disk.old) l.lane in
+            let logged = Some (Record.Event tick number event.now) in
+            D.tells → Appends l logged before (lanes_at (D.lane_of disk.new) l.lane) result }
         ensures reopen { IsErrOf result LogFault.Reopen ↔ (self.old.log.broken ≡ true) }
         ensures idle { IsErrOf result LogFault.Reopen → disk.new ≡ disk.old }
         ensures tally { let f = D.faults disk.old in let s = D.stops disk.old in
             Tally f s (D.faults disk.new) (D.stops disk.new) result }
         ensures causes { let f = D.faults disk.old in let f' = D.faults disk.new in
-            D.tells → Causes (D.faultless disk.old) (D.lane_of disk.new self.old.log.lane) f f' result }
+            let lane = D.lane_of disk.new (present_lane self.old.log) in
+            D.tells → Causes (D.faultless disk.old) (has_stopped lane.stop) f f' result }
         ensures faultless { let f = D.faults disk.old in
             StaysFaultless (D.faultless disk.old) (D.faultless disk.new) f (D.faults disk.new) }
-        ensures others { let lane = self.old.log.lane in
-            D.tells → (n : ℕ) → n ≢ lane → D.lane_of disk.new n ≡ D.lane_of disk.old n }
+        ensures others { D.tells →
+            (n : ℕ) → AwayFrom self.old.log.lane n → D.lane_of disk.new n ≡ D.lane_of disk.old n }
     {
         let entry = Record::Event {
             tick,
@@ -342,23 +358,24 @@ impl Pubend {
         tick: u64,
         fresh: &Piece<K>,
     ) -> Result<(), LogFault>
-        requires planned { IsPlannedMark self.old.log.records (Quieted.Marked tick fresh.now) }
-        requires stands { D.tells → IsReady self.old.log (D.lane_of disk.old self.old.log.lane) }
+        requires planned { IsPlannedMark self.old.log.state (Quieted.Marked tick fresh.now) }
+        requires stands { D.tells → IsReady self.old.log (lanes_at (D.lane_of disk.old) self.old.log.lane) }
         ensures end { Leaves self.old (grown (Record.Mark tick) self.old) (broken_end self.old) self.new result }
         ensures goes_on { OnOk result
             ((self.new.log.lane ≡ self.old.log.lane) × (self.new.log.broken ≡ self.old.log.broken)) }
-        ensures lane { let l = self.old.log in let before = D.lane_of disk.old l.lane in
-            D.tells → Appends l (Some (Record.Mark tick)) before (D.lane_of disk.new l.lane) result }
+        ensures lanes { let l = self.old.log in let before = lanes_at (D.lane_of disk.old) l.lane in
+            D.tells → Appends l (Some (Record.Mark tick)) before (lanes_at (D.lane_of disk.new) l.lane) result }
         ensures reopen { IsErrOf result LogFault.Reopen ↔ (self.old.log.broken ≡ true) }
         ensures idle { IsErrOf result LogFault.Reopen → disk.new ≡ disk.old }
         ensures tally { let f = D.faults disk.old in let s = D.stops disk.old in
             Tally f s (D.faults disk.new) (D.stops disk.new) result }
         ensures causes { let f = D.faults disk.old in let f' = D.faults disk.new in
-            D.tells → Causes (D.faultless disk.old) (D.lane_of disk.new self.old.log.lane) f f' result }
+            let lane = D.lane_of disk.new (present_lane self.old.log) in
+            D.tells → Causes (D.faultless disk.old) (has_stopped lane.stop) f f' result }
         ensures faultless { let f = D.faults disk.old in
             StaysFaultless (D.faultless disk.old) (D.faultless disk.new) f (D.faults disk.new) }
-        ensures others { let lane = self.old.log.lane in
-            D.tells → (n : ℕ) → n ≢ lane → D.lane_of disk.new n ≡ D.lane_of disk.old n }
+        ensures others { D.tells →
+            (n : ℕ) → AwayFrom self.old.log.lane n → D.lane_of disk.new n ≡ D.lane_of disk.old n }
     {
         self.log_and_join(disk, &Record::Mark { tick }, fresh)
     }
@@ -372,23 +389,24 @@ impl Pubend {
         tick: u64,
         fresh: &Piece<K>,
     ) -> Result<(), LogFault>
-        requires planned { let l = self.old.log in IsPlannedJoin l.late l.records s (Joined.Logged tick fresh.now) }
-        requires stands { D.tells → IsReady self.old.log (D.lane_of disk.old self.old.log.lane) }
+        requires planned { IsPlannedJoin self.old.log.state s (Joined.Logged tick fresh.now) }
+        requires stands { D.tells → IsReady self.old.log (lanes_at (D.lane_of disk.old) self.old.log.lane) }
         ensures end { Leaves self.old (grown (Record.Join tick s) self.old) (broken_end self.old) self.new result }
         ensures goes_on { OnOk result
             ((self.new.log.lane ≡ self.old.log.lane) × (self.new.log.broken ≡ self.old.log.broken)) }
-        ensures lane { let l = self.old.log in let before = D.lane_of disk.old l.lane in
-            D.tells → Appends l (Some (Record.Join tick s)) before (D.lane_of disk.new l.lane) result }
+        ensures lanes { let l = self.old.log in let before = lanes_at (D.lane_of disk.old) l.lane in
+            D.tells → Appends l (Some (Record.Join tick s)) before (lanes_at (D.lane_of disk.new) l.lane) result }
         ensures reopen { IsErrOf result LogFault.Reopen ↔ (self.old.log.broken ≡ true) }
         ensures idle { IsErrOf result LogFault.Reopen → disk.new ≡ disk.old }
         ensures tally { let f = D.faults disk.old in let s = D.stops disk.old in
             Tally f s (D.faults disk.new) (D.stops disk.new) result }
         ensures causes { let f = D.faults disk.old in let f' = D.faults disk.new in
-            D.tells → Causes (D.faultless disk.old) (D.lane_of disk.new self.old.log.lane) f f' result }
+            let lane = D.lane_of disk.new (present_lane self.old.log) in
+            D.tells → Causes (D.faultless disk.old) (has_stopped lane.stop) f f' result }
         ensures faultless { let f = D.faults disk.old in
             StaysFaultless (D.faultless disk.old) (D.faultless disk.new) f (D.faults disk.new) }
-        ensures others { let lane = self.old.log.lane in
-            D.tells → (n : ℕ) → n ≢ lane → D.lane_of disk.new n ≡ D.lane_of disk.old n }
+        ensures others { D.tells →
+            (n : ℕ) → AwayFrom self.old.log.lane n → D.lane_of disk.new n ≡ D.lane_of disk.old n }
     {
         let entry = Record::Join {
             tick,
@@ -397,38 +415,48 @@ impl Pubend {
         self.log_and_join(disk, &entry, fresh)
     }
 
-    /// Logs that nothing up to a tick is asked for again, and makes all up to it final. Faults are those of `publish`.
-    pub fn cut_to<D: Disk>(&mut self, disk: &mut D, tick: u64) -> Result<(), LogFault>
-        requires past { (state_of self.old.log.records).cut < tick }
-        requires upto { tick ≤ (state_of self.old.log.records).settled }
-        requires stands { D.tells → IsReady self.old.log (D.lane_of disk.old self.old.log.lane) }
-        ensures end { Leaves self.old (grown (Record.Cut tick) self.old) (broken_end self.old) self.new result }
+    /// Notes that nothing up to a tick is asked for again, and makes all up to it final: `cut_log`. Faults are those of
+    /// `publish`.
+    pub fn cut_to<D: Disk>(
+        &mut self,
+        disk: &mut D,
+        tick: u64,
+        reclaim: u32,
+    ) -> Result<Cutting, LogFault>
+        requires past { self.old.log.state.cut < tick }
+        requires upto { tick ≤ self.old.log.state.settled }
+        requires stands { D.tells → IsReady self.old.log (lanes_at (D.lane_of disk.old) self.old.log.lane) }
+        ensures answer { IfOk result (λ c. c ≡ cutting_of self.old.log reclaim) }
+        ensures end { Leaves self.old (cut_end reclaim tick self.old) (broken_end self.old) self.new result }
         ensures goes_on { OnOk result
             ((self.new.log.lane ≡ self.old.log.lane) × (self.new.log.broken ≡ self.old.log.broken)) }
-        ensures lane { let l = self.old.log in let before = D.lane_of disk.old l.lane in
-            D.tells → Appends l (Some (Record.Cut tick)) before (D.lane_of disk.new l.lane) result }
+        ensures lanes { let l = self.old.log in let before = lanes_at (D.lane_of disk.old) l.lane in
+            D.tells → Cuts l (Some tick) reclaim before (lanes_at (D.lane_of disk.new) l.lane) result }
         ensures reopen { IsErrOf result LogFault.Reopen ↔ (self.old.log.broken ≡ true) }
         ensures idle { IsErrOf result LogFault.Reopen → disk.new ≡ disk.old }
         ensures tally { let f = D.faults disk.old in let s = D.stops disk.old in
             Tally f s (D.faults disk.new) (D.stops disk.new) result }
         ensures causes { let f = D.faults disk.old in let f' = D.faults disk.new in
-            D.tells → Causes (D.faultless disk.old) (D.lane_of disk.new self.old.log.lane) f f' result }
+            let lane = D.lane_of disk.new (cut_lane self.old.log reclaim) in
+            D.tells → Causes (D.faultless disk.old) (has_stopped lane.stop) f f' result }
         ensures faultless { let f = D.faults disk.old in
             StaysFaultless (D.faultless disk.old) (D.faultless disk.new) f (D.faults disk.new) }
-        ensures others { let lane = self.old.log.lane in
-            D.tells → (n : ℕ) → n ≢ lane → D.lane_of disk.new n ≡ D.lane_of disk.old n }
+        ensures others { D.tells →
+            (n : ℕ) → AwayFrom self.old.log.lane n → D.lane_of disk.new n ≡ D.lane_of disk.old n }
     {
         if self.log.is_broken() {
             return Err(LogFault::Reopen);
         }
+        // Proof only: until the log is called the lanes hold what they held.
+        stands_read();
         match self.know.reserve(2) {
             Ok(()) => {}
             Err(_) => return Err(LogFault::Memory),
         }
-        match self.log.append(disk, &Record::Cut { tick }) {
-            Ok(()) => {
+        match cut_log(&mut self.log, disk, tick, reclaim) {
+            Ok(cutting) => {
                 self.know.finish_ready(1, tick);
-                Ok(())
+                Ok(cutting)
             }
             Err(fault) => Err(fault),
         }
@@ -437,8 +465,8 @@ impl Pubend {
     /// What is known by the log. Takes no memory.
     pub fn know(&self) -> &Know
         ensures know { result.now.runs ≡ self.now.know }
-        ensures known { self.now.know ≡ log_know (log_of self.now.log.records) }
-        ensures each { RunsGive Q self.now.know (log_at (log_of self.now.log.records)) }
+        ensures known { self.now.know ≡ log_know (said self.now.log) }
+        ensures each { RunsGive Q self.now.know (log_at (said self.now.log)) }
     {
         let _ = self.know.len();
         &self.know
@@ -446,10 +474,7 @@ impl Pubend {
 
     /// The log. Takes no memory.
     pub fn log(&self) -> &Log
-        ensures log { result.now ≡ self.now.log }
-        ensures last { (log_of self.now.log.records).last ≡ (state_of self.now.log.records).last }
-        ensures settled { (log_of self.now.log.records).settled ≡ (state_of self.now.log.records).settled }
-        ensures cut { (log_of self.now.log.records).cut ≡ (state_of self.now.log.records).cut }
+        ensures { result.now ≡ self.now.log }
     {
         &self.log
     }
@@ -462,27 +487,30 @@ impl Pubend {
         entry: &Record,
         fresh: &Piece<K>,
     ) -> Result<(), LogFault>
-        requires news { IsNews self.old.log.late self.old.log.records entry.now fresh.now }
-        requires stands { D.tells → IsReady self.old.log (D.lane_of disk.old self.old.log.lane) }
+        requires news { IsNews self.old.log.state entry.now fresh.now }
+        requires stands { D.tells → IsReady self.old.log (lanes_at (D.lane_of disk.old) self.old.log.lane) }
         ensures end { Leaves self.old (grown entry.now self.old) (broken_end self.old) self.new result }
         ensures goes_on { OnOk result
             ((self.new.log.lane ≡ self.old.log.lane) × (self.new.log.broken ≡ self.old.log.broken)) }
-        ensures lane { let l = self.old.log in let before = D.lane_of disk.old l.lane in
-            D.tells → Appends l (Some entry.now) before (D.lane_of disk.new l.lane) result }
+        ensures lanes { let l = self.old.log in let before = lanes_at (D.lane_of disk.old) l.lane in
+            D.tells → Appends l (Some entry.now) before (lanes_at (D.lane_of disk.new) l.lane) result }
         ensures reopen { IsErrOf result LogFault.Reopen ↔ (self.old.log.broken ≡ true) }
         ensures idle { IsErrOf result LogFault.Reopen → disk.new ≡ disk.old }
         ensures tally { let f = D.faults disk.old in let s = D.stops disk.old in
             Tally f s (D.faults disk.new) (D.stops disk.new) result }
         ensures causes { let f = D.faults disk.old in let f' = D.faults disk.new in
-            D.tells → Causes (D.faultless disk.old) (D.lane_of disk.new self.old.log.lane) f f' result }
+            let lane = D.lane_of disk.new (present_lane self.old.log) in
+            D.tells → Causes (D.faultless disk.old) (has_stopped lane.stop) f f' result }
         ensures faultless { let f = D.faults disk.old in
             StaysFaultless (D.faultless disk.old) (D.faultless disk.new) f (D.faults disk.new) }
-        ensures others { let lane = self.old.log.lane in
-            D.tells → (n : ℕ) → n ≢ lane → D.lane_of disk.new n ≡ D.lane_of disk.old n }
+        ensures others { D.tells →
+            (n : ℕ) → AwayFrom self.old.log.lane n → D.lane_of disk.new n ≡ D.lane_of disk.old n }
     {
         if self.log.is_broken() {
             return Err(LogFault::Reopen);
         }
+        // Proof only: until the log is called the lanes hold what they held.
+        stands_read();
         match make_room(&mut self.know, fresh) {
             Ok(()) => {}
             Err(_) => return Err(LogFault::Memory),

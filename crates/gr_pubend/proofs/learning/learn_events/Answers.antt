@@ -4,9 +4,9 @@ use Rattle.gr_tick.specs.Stored.{EndBefore}
 use Rattle.gr_know.specs.declared.values.K.{K}
 use Rattle.gr_know.specs.Values.{Known, known_at, join_K}
 use Rattle.gr_publog.specs.declared.record.Entry.{Entry}
-use Rattle.gr_pubend.specs.Log.{log_at, Stays}
+use Rattle.gr_pubend.specs.Log.{log_at}
 use Rattle.gr_pubend.specs.Opening.{seen}
-use Rattle.gr_pubend.proofs.Opening.{at_state, seen_none, seen_more, seen_gathered, seen_learned, nothing_gathered, none_ends, last_up, next_entry}
+use Rattle.gr_pubend.proofs.Opening.{IsSeen, seen_none, seen_more, seen_gathered, seen_learned, nothing_gathered, none_ends, last_up, next_entry}
 use Rattle.gr_pubend.proofs.learning.learn_events.Goals as goal
 use Rattle.gr_pubend.proofs.learning.learn_events.Goals.{then-len-ge-GATHERED+in_ok-take_in, else-len-ge-GATHERED}
 
@@ -37,7 +37,7 @@ entries-preserved c =
     seen_gathered c.args.cut c.entries.last (take c.entries.i c.args.events.now) e c.entries.know.runs c.entries.piece c.put_event.new.piece i.stays i.says n.past c.in_ok-put_event.ensures.values t
     ∙ ap (λ (es : List Entry). log_at (seen c.args.cut es) t) (sym n.taken) in
     record {
-      stays = subst (λ (es : List Entry). Stays (seen c.args.cut es) (at_state e.tick c.args.cut)) (sym n.taken) (seen_more c.args.cut c.entries.last (take c.entries.i c.args.events.now) e i.stays n.past (omega (arith, n.within, c.requires.upto)));
+      stays = subst (λ (es : List Entry). IsSeen c.args.cut e.tick es) (sym n.taken) (seen_more c.args.cut c.entries.last (take c.entries.i c.args.events.now) e i.stays n.past (omega (arith, n.within, c.requires.upto)));
       says = elim c.if-len-ge-GATHERED.branch [
         | then-len-ge-GATHERED+in_ok-take_in w ↦
             λ t.
