@@ -130,6 +130,7 @@ net_by host client home up children here below depth wanted = record {
   retry = 500;
   quiet = 1000;
   cache = 1024;
+  reclaim = 65536;
 }
 
 -- the small examples' topology is that of the blank topology part

@@ -27,7 +27,7 @@ use Rattle.gr_model.specs.declared.report.Report.{Report}
 use Rattle.gr_model.specs.declared.report.Report.TheVariants as line
 use Rattle.gr_model.specs.Net.{Net, all_late, keeps_horizon, numbers}
 use Rattle.gr_model.specs.Broker.{View, Log, max_tick, seen}
-use Rattle.gr_model.specs.World.{World, Transition, view_of, log_of, unchanged, followed_by, in_turn, deliver_frame}
+use Rattle.gr_model.specs.World.{World, Transition, view_of, log_of, unchanged, followed_by, in_turn}
 use Rattle.gr_model.specs.World.{kept_events, deliver_frame_by, publish_now_by, wake_all_by, join_now_by}
 use Rattle.gr_model.specs.Opening.{opening, opening_by}
 

@@ -23,4 +23,5 @@ net0 = record {
   retry = 500;
   quiet = 1000;
   cache = 1024;
+  reclaim = 65536;
 }

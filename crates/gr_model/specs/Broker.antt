@@ -14,7 +14,6 @@ use Rattle.gr_frame.specs.declared.Head.{Head}
 use Rattle.gr_frame.specs.declared.Frame.{Frame}
 use Rattle.gr_frame.specs.Bytes.{head_size, known_run_size, wanted_run_size, cut_frames}
 use Rattle.gr_event.specs.Joins.{longer, splits}
-use Rattle.gr_event.specs.declared.join.Join.{Join}
 use Rattle.gr_pubend.specs.declared.answers.Joined.{Joined}
 use Rattle.gr_pubend.specs.declared.answers.Joined.TheVariants as joins
 use Rattle.gr_curio.specs.declared.asks.Moment.TheVariants.{Never}
@@ -22,11 +21,12 @@ use Rattle.gr_model.specs.declared.report.Report.{Report}
 use Rattle.gr_model.specs.declared.report.Report.TheVariants as line
 use Rattle.gr_tick.specs.Runs.{points, zip_runs, first_bottom_from, top_of}
 use Rattle.gr_know.specs.Values.{Known, known_at, knowns, same_K, is_Q, join_K, new_K, clash_K}
-pub use Rattle.gr_publog.specs.Kept.{is_kept}
+pub use Rattle.gr_publog.specs.Crash.{is_kept}
 pub use Rattle.gr_publog.specs.State.{max_tick}
-pub use Rattle.gr_pubend.specs.Log.{Log, empty_log, with_event, with_mark, with_cut, with_join}
+pub use Rattle.gr_pubend.specs.Log.{Log, empty_log, fresh_log, with_event, with_mark, with_cut, with_join, past}
+pub use Rattle.gr_pubend.specs.Log.{reclaims, filled_log, cut_log_at}
 pub use Rattle.gr_pubend.specs.Log.{event_at, log_at, event_points}
-unfoldable pub use Rattle.gr_pubend.specs.Log.{log_know, silence}
+unfoldable pub use Rattle.gr_pubend.specs.Log.{log_know, silence, size_filled}
 use Rattle.gr_pubend.specs.declared.answers.Published.{Published}
 use Rattle.gr_pubend.specs.declared.answers.Published.TheVariants as publishes
 use Rattle.gr_pubend.specs.declared.answers.Quieted.{Quieted}
@@ -356,11 +356,16 @@ publish net p b now number e v log = publish_by net p b number e v log (publishe
 unfoldable pub done_upto : Wanted → ℕ → ℕ
 done_upto done upto = min upto (first_bottom_from done 1 - 1)
 
--- a Cut where more is consolidated than was cut
+-- where more is consolidated than was cut, the log is cut, and written anew where its text is long
 unfoldable pub cutting : Net → ℕ → ℕ → View → Log → Log
 cutting net p b v log =
     let a = done_upto (consolidated (keeps_horizon net p b) v.horizon v.wants) log.settled in
-    if nat_lt log.cut a then with_cut log a else log
+    if nat_lt log.cut a then cut_log_at net.reclaim log a else log
+
+-- the lines of a log before and after a cut: where it was cut, and directly behind that where it was written anew
+abbrev pub cutting_lines : ℕ → Log → Log → List Report
+cutting_lines p log cut = if nat_lt log.cut cut.cut then line.Cut p cut.cut ∷
+    (if nat_lt log.generation cut.generation then line.Reclaimed p cut.generation ∷ [] else []) else []
 
 -- a time of silence, by its answer: the log is marked and the silence learned, or it was not silent for long
 abbrev pub marking_by : Net → ℕ → ℕ → View → Log → Quieted → Outcome
@@ -380,7 +385,7 @@ wake_host net p b now v log =
       view = o.view;
       log = cut;
       lines = (if nat_lt log.settled o.log.settled then line.Mark p now ∷ [] else [])
-          ++ (if nat_lt o.log.cut cut.cut then line.Cut p cut.cut ∷ [] else [])
+          ++ cutting_lines p o.log cut
           ++ o.lines;
       frames = o.frames ++ (if nat_lt 0 cut.settled then expect_frames p b cut.settled (net.children p b) o.view.wants
           else []);
@@ -395,7 +400,7 @@ wake net p b now v log = elim (is_host net p b) [
 
 -- Start, and start again
 
--- what a broker knows when it starts: at the host, what the log says. It holds no joins
+-- what a broker knows when it starts: at the host, what the log says, with its joins
 unfoldable pub started : Net → ℕ → ℕ → Log → View
 started net p b log = record {
   know = if is_host net p b then log_know log else [];
@@ -450,7 +455,7 @@ abbrev pub place_of : ℕ → List ℕ → ℕ
 place_of c [] = 0
 place_of c (x ∷ xs) = if nat_eq x c then 0 else suc (place_of c xs)
 
--- a frame comes; one that clashes is dropped. No joins are taken up
+-- a frame comes. Knowledge that splits or clashes is dropped; else its joins are taken up
 unfoldable pub receive : Net → ℕ → Frame → View → Log → Outcome
 receive net now f v log =
     elim f.body [

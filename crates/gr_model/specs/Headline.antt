@@ -1,5 +1,5 @@
 -- What the report of a schedule says, apart from any machine: the record, the gots, the horizons, the cuts
-use Rattle.std.specs.Prelude.{◌≡◌, ℕ, suc, ◌+◌, ◌*◌, ◌≤◌, ◌<◌, max, Bool, true, false, not, ◌&&◌, ◌||◌, nat_eq, nat_le}
+use Rattle.std.specs.Prelude.{◌≡◌, ℕ, suc, ◌+◌, ◌-◌, ◌≤◌, ◌<◌, max, Bool, true, false, not, ◌&&◌, ◌||◌, nat_eq, nat_le}
 use Rattle.std.specs.Prelude.{nat_lt, if◌then◌else◌, List, [], ◌∷◌, ◌++◌, length, map, filter, get_or, set, replicate}
 use Rattle.std.specs.Prelude.{Option, Some, None, flat_map, Contains, IsTrue}
 use Rattle.std.specs.List.{list_any}
@@ -14,9 +14,10 @@ use Rattle.gr_tick.specs.Runs.{is_in}
 use Rattle.gr_know.specs.Values.{Known}
 use Rattle.gr_event.specs.Joins.{Joins, has_joined}
 use Rattle.gr_model.specs.Net.{Net, with_wants, wants_with, keeps_horizon, is_host, not_empty, numbers}
-use Rattle.gr_model.specs.Broker.{max_tick, is_kept}
+use Rattle.gr_model.specs.Broker.{max_tick, is_kept, past, reclaims, size_filled}
 
--- what was recorded of one publisher: the last number, the tick up to which all is settled, and the events by tick
+-- what was recorded of one publisher: the last number, the tick up to which all is settled, the events by tick, and the
+-- joins
 pub record Recorded : Type 0 where
   pub last : ℕ
   pub settled : ℕ
@@ -25,6 +26,15 @@ pub record Recorded : Type 0 where
 
 abbrev pub nothing_recorded : Recorded
 nothing_recorded = record { last = 0; settled = 0; events = []; joined = [] }
+
+-- of the lane that holds a log: its generation, and how many bytes its text has
+pub record Stored : Type 0 where
+  pub generation : ℕ
+  pub size : ℕ
+
+-- where nothing was logged yet
+abbrev pub first_stored : Stored
+first_stored = record { generation = 1; size = 33 }
 
 -- what the steps and lines so far say
 pub record History : Type 0 where
@@ -36,8 +46,8 @@ pub record History : Type 0 where
   pub lines : List Report
   -- broker by broker, publisher by publisher: the pieces heard since the last crash
   pub heard : List (List (List Known))
-  pub unlogged : List Bool  -- publisher by publisher: nothing was logged or marked since its host started
-  pub gates : List ℕ  -- publisher by publisher: the place of the closed gate in its log's lane
+  pub unlogged : List Bool  -- publisher by publisher: nothing was logged, joined or marked since its host started
+  pub stored : List Stored  -- publisher by publisher: of its log
 
 -- the record of a publisher
 abbrev pub record_of : History → ℕ → Recorded
@@ -151,11 +161,11 @@ most_after net h l =
       | _ ↦ h.most
     ]
 
--- The gates
+-- What is stored
 
--- where the gate stands in a lane of which no record is logged, behind its header
-abbrev pub first_gate : ℕ
-first_gate = 5
+-- what is stored of the log of a publisher
+abbrev pub stored_of : History → ℕ → Stored
+stored_of h p = get_or h.stored p first_stored
 
 -- the bytes that a record and its gate take in the lane: of an event, of a mark or a cut, and of a join
 abbrev pub event_room : Event → ℕ
@@ -167,34 +177,75 @@ mark_room = 10
 abbrev pub join_room : ℕ
 join_room = 12
 
--- the place of the gate in the lane of a publisher's log
-abbrev pub gate_of : History → ℕ → ℕ
-gate_of h p = get_or h.gates p first_gate
+-- with so many bytes more
+abbrev pub grown : ℕ → Stored → Stored
+grown n s = record { generation = s.generation; size = s.size + n }
 
--- the line says that a mark or a cut was logged for the publisher
-abbrev pub is_mark_of : ℕ → Report → Bool
-is_mark_of p (line.Mark q t) = nat_eq q p
-is_mark_of p (line.Cut q t) = nat_eq q p
-is_mark_of p _ = false
+-- after a cut at a tick: a record more, or, where the text has `reclaim` bytes or more, a new lane with what is past it
+abbrev pub cut_stored : ℕ → ℕ → ℕ → Recorded → Stored → Stored
+cut_stored reclaim t settled r s = if reclaims reclaim s.size s.generation
+    then record { generation = suc s.generation; size = size_filled t settled (past t r.events) r.joined }
+    else grown mark_room s
 
--- the gates of the publishers from p on, past the marks and cuts that are told
-abbrev pub gates_told : ℕ → List ℕ → List Report → List ℕ
-gates_told p [] ls = []
-gates_told p (g ∷ gs) ls = (g + mark_room * length (filter (is_mark_of p) ls)) ∷ gates_told (suc p) gs ls
+-- Of a publisher: the tick up to which its log is settled, and what is stored of it
+abbrev pub Standing : Type 0
+Standing = ℕ × Stored
 
--- the gates after a step and its lines: past each event that is recorded, and each mark and cut of a wake or a sweep
-unfoldable pub gates_after : Net → History → Line → List Report → List ℕ
-gates_after net h l ls =
+-- before the lines of a step
+abbrev pub standing_of : History → ℕ → Standing
+standing_of h p = ((record_of h p).settled, stored_of h p)
+
+-- after one line more of a wake or a sweep
+abbrev pub stored_by : Net → ℕ → Recorded → Standing → Report → Standing
+stored_by net p r x (line.Mark q t) = if nat_eq q p then (t, grown mark_room x.1) else x
+stored_by net p r x (line.Cut q t) = if nat_eq q p then (x.0, cut_stored net.reclaim t x.0 r x.1) else x
+stored_by net p r x _ = x
+
+-- after such lines
+abbrev pub stored_past : Net → ℕ → Recorded → Standing → List Report → Standing
+stored_past net p r x [] = x
+stored_past net p r x (l ∷ ls) = stored_past net p r (stored_by net p r x l) ls
+
+-- what is stored of the publishers from p on after such lines
+abbrev pub stored_told : Net → History → ℕ → List Stored → List Report → List Stored
+stored_told net h p [] ls = []
+stored_told net h p (s ∷ ss) ls =
+    (stored_past net p (record_of h p) ((record_of h p).settled, s) ls).1 ∷ stored_told net h (suc p) ss ls
+
+-- what is stored after a step and its lines: each event and join that is recorded, and each mark and cut of a wake or a
+-- sweep
+unfoldable pub stored_after : Net → History → Line → List Report → List Stored
+stored_after net h l ls =
     elim l.step [
       | step.Publish p number stop e ↦
           let recorded = is_next h.clock (record_of h p) number && elim stop [ None ↦ true | Some s ↦ says_kept ls ] in
-          if recorded then set h.gates p (gate_of h p + event_room e) else h.gates
-      | step.Wake b ↦ gates_told 0 h.gates ls
-      | step.Sweep ↦ gates_told 0 h.gates ls
+          if recorded then set h.stored p (grown (event_room e) (stored_of h p)) else h.stored
+      | step.Wake b ↦ stored_told net h 0 h.stored ls
+      | step.Sweep ↦ stored_told net h 0 h.stored ls
       | step.Join s p ↦
-          if may_enter h.clock (record_of h p) s then set h.gates p (gate_of h p + join_room) else h.gates
-      | _ ↦ h.gates
+          if may_enter h.clock (record_of h p) s then set h.stored p (grown join_room (stored_of h p)) else h.stored
+      | _ ↦ h.stored
     ]
+
+-- the line says that a log was written anew
+abbrev pub is_reclaimed_line : Report → Bool
+is_reclaimed_line (line.Reclaimed p generation) = true
+is_reclaimed_line _ = false
+
+-- what is told directly behind a line: where a cut writes its log anew, the generation after it
+abbrev pub reclaimed_behind : Net → (ℕ → Standing) → Report → List Report
+reclaimed_behind net at (line.Cut p t) = if reclaims net.reclaim (at p).1.size (at p).1.generation
+    then line.Reclaimed p (suc (at p).1.generation) ∷ [] else []
+reclaimed_behind net at _ = []
+
+-- the lines, and behind each what is told there, where the logs stand so before them
+abbrev pub with_reclaimed_from : Net → (ℕ → Recorded) → (ℕ → Standing) → List Report → List Report
+with_reclaimed_from net records at [] = []
+with_reclaimed_from net records at (l ∷ ls) = l ∷ (reclaimed_behind net at l
+    ++ with_reclaimed_from net records (λ p. stored_by net p (records p) (at p) l) ls)
+
+abbrev pub with_reclaimed : Net → History → List Report → List Report
+with_reclaimed net h ls = with_reclaimed_from net (record_of h) (standing_of h) ls
 
 -- What was heard
 
@@ -262,7 +313,7 @@ heard_after net h l ls =
       | _ ↦ elim (crashed_by net h l) [ None ↦ h.heard | Some b ↦ heard_nothing net h.heard b ]
     ]
 
--- the line says that something was logged or marked for the publisher
+-- the line says that something was logged, joined or marked for the publisher
 abbrev pub is_record_of : ℕ → Report → Bool
 is_record_of p (line.Logged q n t) = nat_eq q p
 is_record_of p (line.Mark q t) = nat_eq q p
@@ -274,7 +325,7 @@ abbrev pub each_flag : (ℕ → Bool → Bool) → ℕ → List Bool → List Bo
 each_flag f p [] = []
 each_flag f p (b ∷ bs) = f p b ∷ each_flag f (suc p) bs
 
--- which hosts have logged and marked nothing since their start
+-- which hosts have logged, joined and marked nothing since their start
 unfoldable pub unlogged_after : Net → History → Line → List Report → List Bool
 unlogged_after net h l ls =
     elim (crashed_by net h l) [
@@ -292,7 +343,7 @@ history_after net h l ls = record {
   lines = h.lines ++ ls;
   heard = heard_after net h l ls;
   unlogged = unlogged_after net h l ls;
-  gates = gates_after net h l ls;
+  stored = stored_after net h l ls;
 }
 
 -- before the first step
@@ -305,7 +356,7 @@ begin net = record {
   lines = [];
   heard = replicate net.brokers (replicate net.publishers []);
   unlogged = replicate net.publishers true;
-  gates = replicate net.publishers first_gate;
+  stored = replicate net.publishers first_stored;
 }
 
 -- a tick was heard in some piece
@@ -452,13 +503,16 @@ abbrev pub doubt_place : Report → ℕ × ℕ
 doubt_place (line.Doubt b p t) = (b, p)
 doubt_place _ = (0, 0)
 
--- of one step: the recorded lines, whether a stopped publish is kept, the places of the doubt lines, and their horizons
+-- of one step: the recorded lines, whether a stopped publish is kept, which logs are written anew, the places of the
+-- doubt lines, and their horizons
 pub record StepReports (net : Net) (h : History) (l : Line) (ls : List Report) : Type 0 where
   pub records : filter is_record_line ls ≡ record_lines net h l ls
   -- a stopped publish that would be logged is kept exactly where its call and its pick leave the gate open
   pub kept : (p number : ℕ) (s : Stop) (e : Event) → l.step ≡ step.Publish p number (Some s) e →
       IsTrue (may_crash net (net.host p)) → IsTrue (is_next h.clock (record_of h p) number) →
-      says_kept ls ≡ is_kept (gate_of h p) s.call s.pick
+      says_kept ls ≡ is_kept ((stored_of h p).size - 1) s.call s.pick
+  -- each cut that writes its log anew is reported so directly behind its line, and nothing else is
+  pub reclaims : ls ≡ with_reclaimed net h (filter (λ x. not (is_reclaimed_line x)) ls)
   pub doubts_stand : map doubt_place (filter is_doubt_line ls) ≡ doubts_shown net l
   pub doubts_true : (b p t : ℕ) → Contains ls (line.Doubt b p t) → IsDoubt net h b p t
 

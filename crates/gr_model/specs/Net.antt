@@ -27,6 +27,7 @@ pub record Net : Type 0 where
   pub retry : ℕ  -- how long an ask is outstanding
   pub quiet : ℕ  -- how long a log is silent before it is marked
   pub cache : ℕ  -- how many event ticks a broker below the host keeps for a publisher
+  pub reclaim : ℕ  -- a cut writes a log anew whose text has this many bytes or more
 
 -- 0, 1, .. below a number
 abbrev pub numbers : ℕ → List ℕ

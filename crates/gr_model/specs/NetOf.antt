@@ -1,8 +1,7 @@
 -- The machine's topology of one that was read
-use Rattle.std.specs.Prelude.{◌≡◌, ℕ, ◌<◌, ◌≤◌, true, nat_eq, List, [], ◌∷◌, length, map, None, is_some}
+use Rattle.std.specs.Prelude.{◌≡◌, ℕ, ◌<◌, ◌≤◌, true, nat_eq, List, [], ◌∷◌, length, None, is_some}
 use Rattle.std.specs.List.{list_any}
-use Rattle.gr_edge.specs.Pass.{Wanting}
-use Rattle.gr_topo.specs.Topology.{TopologyView, host_of, client_of, home_of, filter_of, up_at, depth_at, children_of}
+use Rattle.gr_topo.specs.Topology.{TopologyView, host_of, client_of, home_of, up_at, depth_at, children_of}
 use Rattle.gr_topo.specs.Topology.{subscribers_of, below_of, wants}
 use Rattle.gr_model.specs.Net.{Net}
 use Rattle.gr_model.specs.Tree.{IsDistinct}
@@ -27,15 +26,8 @@ net_of t = record {
   retry = t.settings.retry;
   quiet = t.settings.quiet;
   cache = t.settings.cache;
+  reclaim = t.settings.reclaim;
 }
-
--- what a subscriber behind an edge wants; none is late there yet
-abbrev pub wanting_of : TopologyView → ℕ → Wanting
-wanting_of t s = record { filter = filter_of t s; late = None }
-
--- what the subscribers at a broker and beyond it want
-abbrev pub wantings_below : TopologyView → ℕ → ℕ → List Wanting
-wantings_below t p b = map (wanting_of t) (below_of t p b)
 
 -- each number is less than all that follow it
 abbrev pub IsRising : List ℕ → Type 0

@@ -6,7 +6,7 @@ use Rattle.gr_model.specs.declared.report.Report.TheVariants as line
 use Rattle.gr_model.specs.Net.{Net, is_host, not_empty, numbers}
 use Rattle.gr_model.specs.Broker.{View, Log, empty_log, got_line, learn, started, seen}
 use Rattle.gr_model.specs.World.{World, Transition, view_of, log_of, absorbed, unchanged, followed_by, in_turn}
-use Rattle.gr_model.specs.Headline.{Recorded, History}
+use Rattle.gr_model.specs.Headline.{Recorded, Stored, History}
 
 -- the log of a publisher among those that were found
 abbrev pub reopened_log : List Log → ℕ → Log
@@ -55,6 +55,10 @@ opening net = opening_by (seen net) net
 abbrev pub recorded_of : Log → Recorded
 recorded_of log = record { last = log.last; settled = log.settled; events = log.events; joined = log.joins }
 
+-- what is stored of a log as it stands
+abbrev pub stored_now : Log → Stored
+stored_now log = record { generation = log.generation; size = log.size }
+
 unfoldable pub begin_over : Net → List Log → List Report → History
 begin_over net logs told = record {
   clock = 0;
@@ -64,5 +68,5 @@ begin_over net logs told = record {
   lines = told;
   heard = replicate net.brokers (replicate net.publishers []);
   unlogged = replicate net.publishers true;
-  gates = map (λ p. (let log = reopened_log logs p in log.gate)) (numbers net.publishers);
+  stored = map (λ p. stored_now (reopened_log logs p)) (numbers net.publishers);
 }

@@ -21,7 +21,7 @@ use Rattle.gr_model.specs.declared.report.Report.TheVariants.{Cut, Got, Horizon,
 use Rattle.gr_model.specs.declared.report.Report.TheVariants.{Crashed, Swept, RefusedHosts, RefusedFrame, RefusedClock}
 use Rattle.gr_model.specs.declared.report.Report.TheVariants.{DroppedNotFrame, DroppedStray, DroppedSplit, DroppedClash}
 use Rattle.gr_model.specs.declared.report.Report.TheVariants.{DroppedBadNote, DroppedStrayNote, Damaged, Frames, LogOf}
-use Rattle.gr_model.specs.declared.report.Report.TheVariants.{Doubt, BytesOf, Ordered}
+use Rattle.gr_model.specs.declared.report.Report.TheVariants.{Doubt, BytesOf, Ordered, Reclaimed}
 use Rattle.gr_model.specs.declared.report.Report.TheVariants.{Joined, AlreadyJoined, ExhaustedJoin}
 
 -- The names of brokers, publishers and subscribers by their numbers.
@@ -123,6 +123,8 @@ line_words labels (Kept publisher number tick) = publisher_words labels (codes "
 line_words labels (Lost publisher number tick) = publisher_words labels (codes "lost") publisher (number ∷ tick ∷ [])
 line_words labels (Mark publisher tick) = publisher_words labels (codes "mark") publisher (tick ∷ [])
 line_words labels (Cut publisher tick) = publisher_words labels (codes "cut") publisher (tick ∷ [])
+line_words labels (Reclaimed publisher generation) =
+    publisher_words labels (codes "reclaimed") publisher (generation ∷ [])
 line_words labels (Got subscriber publisher tick event) =
     codes "got" ∷ labels.subscriber subscriber ∷ labels.publisher publisher ∷ decimal tick ∷ json_text event ∷ []
 line_words labels (Horizon subscriber publisher tick) =
@@ -203,6 +205,7 @@ IsNamed t (Kept publisher number tick) = publisher < length t.publishers
 IsNamed t (Lost publisher number tick) = publisher < length t.publishers
 IsNamed t (Mark publisher tick) = publisher < length t.publishers
 IsNamed t (Cut publisher tick) = publisher < length t.publishers
+IsNamed t (Reclaimed publisher generation) = publisher < length t.publishers
 IsNamed t (Got subscriber publisher tick event) = AreNamed t subscriber publisher
 IsNamed t (Horizon subscriber publisher tick) = AreNamed t subscriber publisher
 IsNamed t (Ordered subscriber publisher tick event) = AreNamed t subscriber publisher

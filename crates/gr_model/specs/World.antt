@@ -1,7 +1,7 @@
 -- All brokers, the frames sent, and the report of a schedule
-use Rattle.std.specs.Prelude.{ℕ, zero, suc, ◌+◌, max, Bool, true, false, ◌&&◌, nat_eq, nat_le, nat_lt, if◌then◌else◌}
+use Rattle.std.specs.Prelude.{ℕ, zero, suc, ◌+◌, ◌-◌, max, Bool, true, false, ◌&&◌, nat_eq, nat_le, nat_lt}
 use Rattle.std.specs.Prelude.{List, [], ◌∷◌, ◌++◌, length, map, filter, get_or, set, Option, Some, None, slice_get}
-use Rattle.std.specs.Prelude.{flat_map}
+use Rattle.std.specs.Prelude.{flat_map, if◌then◌else◌}
 use Rattle.gr_event.specs.declared.event.Event.{Event}
 use Rattle.gr_frame.specs.declared.Body.TheVariants as body
 use Rattle.gr_frame.specs.declared.Frame.{Frame}
@@ -13,8 +13,7 @@ use Rattle.gr_model.specs.declared.report.Report.{Report}
 use Rattle.gr_model.specs.declared.report.Report.TheVariants as line
 use Rattle.gr_model.specs.Net.{Net, keeps_horizon, not_empty, numbers}
 use Rattle.gr_model.specs.Broker.{max_tick, View, Log, Outcome, empty_log, with_event, publish, wake, receive, started}
-use Rattle.gr_model.specs.Broker.{taking, joining, view_joined, seen}
-use Rattle.gr_model.specs.Broker.{is_kept}
+use Rattle.gr_model.specs.Broker.{taking, joining, view_joined, seen, fresh_log, is_kept}
 
 pub record World : Type 0 where
   pub clock : ℕ
@@ -159,7 +158,7 @@ publish_stopped_by see net w number_of_line p number stop e =
       | false ↦ elim (nat_eq number (suc log.last) && nat_le tick max_tick) [
         | false ↦ publish_now_by see net w p number e
         | true ↦
-            let kept = is_kept log.gate stop.call stop.pick in
+            let kept = is_kept (log.size - 1) stop.call stop.pick in
             let logs = if kept then set w.logs p (with_event log tick e) else w.logs in
             let u : World = record {
               clock = w.clock;
@@ -337,15 +336,19 @@ next_by see net w l =
 abbrev pub next : Net → World → Line → Transition
 next net = next_by (seen net) net
 
--- the world before the first step
-unfoldable pub start : Net → World
-start net = record {
+-- the world before the first step, with logs that forget or not
+unfoldable pub start_by : Bool → Net → World
+start_by forgets net = record {
   clock = 0;
   most = 0;
   frames = [];
-  views = map (λ b. map (λ p. started net p b empty_log) (numbers net.publishers)) (numbers net.brokers);
-  logs = map (λ p. empty_log) (numbers net.publishers);
+  views = map (λ b. map (λ p. started net p b (fresh_log forgets)) (numbers net.publishers)) (numbers net.brokers);
+  logs = map (λ p. fresh_log forgets) (numbers net.publishers);
 }
+
+-- with logs that keep all events
+abbrev pub start : Net → World
+start = start_by false
 
 -- the lines of each step
 unfoldable pub run_from_by : (View → Net) → Net → World → List Line → List (List Report)

@@ -111,6 +111,13 @@ pub enum Report {
         /// The tick up to which all was acknowledged.
         tick: u64,
     },
+    /// A log was written anew, into its other lane.
+    Reclaimed {
+        /// Which publisher.
+        publisher: u16,
+        /// The generation of that lane, from 2.
+        generation: u64,
+    },
     /// A subscriber got an event.
     Got {
         /// Which subscriber.

@@ -163,8 +163,8 @@ impl Orders {
         })
     }
 
-    /// Hears lines in order: each list its subscriber's events and horizons. A line takes the logarithm of what waits, and
-    /// one look at the horizon of each publisher. After `Memory` nothing is said of the lists.
+    /// Hears lines in order: each list its subscriber's events and horizons. A line takes the logarithm of what waits,
+    /// and one look at the horizon of each publisher. After `Memory` nothing is said of the lists.
     pub fn hear(&mut self, lines: &[Report]) -> Result<(), Memory>
         ensures { OnOk result (self.new ≡ fed self.old lines.now) }
     {
