@@ -4,7 +4,7 @@ use Rattle.std.proofs.Math.Seq.{set-append_seam}
 use Rattle.std.proofs.lemmas.List.{append_assoc}
 use Rattle.gr_topo.specs.Topology.{TopologyView}
 use Rattle.gr_model.specs.declared.report.Report.{Report}
-use Rattle.gr_model.specs.declared.report.Report.TheVariants.{Opened, Logged, Already, Gap, Exhausted, Joined, AlreadyJoined, ExhaustedJoin, Kept, Lost, Mark, Cut, Got, Horizon, Ordered, SentKnow, SentWant, SentExpect, Crashed, Swept, RefusedHosts, RefusedFrame, RefusedClock, DroppedNotFrame, DroppedStray, DroppedSplit, DroppedClash, DroppedBadNote, DroppedStrayNote, Damaged, Frames, LogOf, Doubt, BytesOf}
+use Rattle.gr_model.specs.declared.report.Report.TheVariants.{Opened, Logged, Already, Gap, Exhausted, Joined, AlreadyJoined, ExhaustedJoin, Kept, Lost, Mark, Cut, Reclaimed, Got, Horizon, Ordered, SentKnow, SentWant, SentExpect, Crashed, Swept, RefusedHosts, RefusedFrame, RefusedClock, DroppedNotFrame, DroppedStray, DroppedSplit, DroppedClash, DroppedBadNote, DroppedStrayNote, Damaged, Frames, LogOf, Doubt, BytesOf}
 use Rattle.gr_model.specs.Text.{labels_of, row_of, whole_line}
 
 -- a row with the line's end is a blank and the line
@@ -21,6 +21,7 @@ line_in_row t (Kept publisher number tick) = refl
 line_in_row t (Lost publisher number tick) = refl
 line_in_row t (Mark publisher tick) = refl
 line_in_row t (Cut publisher tick) = refl
+line_in_row t (Reclaimed publisher generation) = refl
 line_in_row t (Got subscriber publisher tick event) = refl
 line_in_row t (Horizon subscriber publisher tick) = refl
 line_in_row t (Ordered subscriber publisher tick event) = refl

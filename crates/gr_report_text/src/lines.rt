@@ -8,7 +8,8 @@ ghost use Rattle.gr_event.specs.Json.{json_text};
 ghost use Rattle.gr_model.specs.Text.{labels_of, know_letter, want_letter, run_word, frame_fault_word, note_fault_word};
 ghost use Rattle.gr_model.specs.Text.{hex_pair, log_words, sent_words, joins_words, behind_blanks, row_of};
 ghost use Rattle.gr_model.specs.Text.{AreNamed, IsSentNamed, IsNamed};
-ghost use Rattle.gr_report_text.specs.Families.{IsOfPublish, IsOfLog, IsOfHorizon, IsOfFrame, IsOfDrop};
+ghost use Rattle.gr_report_text.specs.Families.{IsOfPublish, IsOfJoin, IsOfLog, IsOfHorizon, IsOfFrame, IsOfDrop};
+ghost use Rattle.gr_report_text.specs.Families.{IsOfRefusal, IsOfShow};
 
 use crate::words::{push_event, push_hex, push_name, push_number, push_word};
 use gr_curio::Q3;
@@ -597,7 +598,7 @@ fn push_bytes(words: &mut Text, frame: u64, bytes: &Bytes) -> Result<(), AllocEr
     push_hex(words, bytes.as_slice())
 }
 
-/// The line of what became of a publish or of a join.
+/// The line of what became of a publish.
 fn push_publish(words: &mut Text, report: &Report, topo: &Topology) -> Result<(), AllocError>
     requires family { IsOfPublish report.now }
     requires named { IsNamed topo.now report.now }
@@ -628,6 +629,27 @@ fn push_publish(words: &mut Text, report: &Report, topo: &Topology) -> Result<()
             *publisher,
             &[*number],
         ),
+        Report::Kept {
+            publisher,
+            number,
+            tick,
+        } => push_publisher_line(words, topo, b" kept", *publisher, &[*number, *tick]),
+        Report::Lost {
+            publisher,
+            number,
+            tick,
+        } => push_publisher_line(words, topo, b" lost", *publisher, &[*number, *tick]),
+        _ => unreachable!(),
+    }
+}
+
+/// The line of what became of a join.
+fn push_join(words: &mut Text, report: &Report, topo: &Topology) -> Result<(), AllocError>
+    requires family { IsOfJoin report.now }
+    requires named { IsNamed topo.now report.now }
+    ensures { OnOk result (words.new ≡ words.old ++ row_of topo.now report.now) }
+{
+    match report {
         Report::Joined {
             subscriber,
             publisher,
@@ -641,16 +663,6 @@ fn push_publish(words: &mut Text, report: &Report, topo: &Topology) -> Result<()
             subscriber,
             publisher,
         } => push_named_both(words, topo, b" exhausted-join", *subscriber, *publisher),
-        Report::Kept {
-            publisher,
-            number,
-            tick,
-        } => push_publisher_line(words, topo, b" kept", *publisher, &[*number, *tick]),
-        Report::Lost {
-            publisher,
-            number,
-            tick,
-        } => push_publisher_line(words, topo, b" lost", *publisher, &[*number, *tick]),
         _ => unreachable!(),
     }
 }
@@ -682,6 +694,10 @@ fn push_log_change(words: &mut Text, report: &Report, topo: &Topology) -> Result
             *publisher,
             &[*tick],
         ),
+        Report::Reclaimed {
+            publisher,
+            generation,
+        } => push_publisher_line(words, topo, b" reclaimed", *publisher, &[*generation]),
         Report::Damaged { publisher, at } => push_publisher_line(
             words,
             topo,
@@ -814,6 +830,42 @@ fn push_drop(words: &mut Text, report: &Report, topo: &Topology) -> Result<(), A
     }
 }
 
+/// The line of a step that was refused.
+fn push_refusal(words: &mut Text, report: &Report, topo: &Topology) -> Result<(), AllocError>
+    requires family { IsOfRefusal report.now }
+    requires named { IsNamed topo.now report.now }
+    ensures { OnOk result (words.new ≡ words.old ++ row_of topo.now report.now) }
+{
+    match report {
+        Report::RefusedHosts { line, broker } => push_refused_hosts(words, topo, *line, *broker),
+        Report::RefusedFrame { line, frame, sent } => push_refused_frame(
+            words, *line, *frame, *sent,
+        ),
+        Report::RefusedClock { line, moment } => push_refused_clock(words, *line, *moment),
+        _ => unreachable!(),
+    }
+}
+
+/// The line of what is shown: of how many frames, a log, or the bytes of a frame.
+fn push_show(words: &mut Text, report: &Report, topo: &Topology) -> Result<(), AllocError>
+    requires family { IsOfShow report.now }
+    requires named { IsNamed topo.now report.now }
+    ensures { OnOk result (words.new ≡ words.old ++ row_of topo.now report.now) }
+{
+    match report {
+        Report::Frames { count } => push_pair(words, b"frames", *count),
+        Report::LogOf {
+            publisher,
+            last,
+            settled,
+            cut,
+            kept,
+        } => push_shown_log(words, topo, *publisher, *last, *settled, *cut, *kept),
+        Report::BytesOf { frame, bytes } => push_bytes(words, *frame, bytes),
+        _ => unreachable!(),
+    }
+}
+
 /// The words of a line, which go behind those that are there.
 pub(crate) fn push_line(
     words: &mut Text,
@@ -826,31 +878,26 @@ pub(crate) fn push_line(
     match report {
         Report::Crashed { broker } => push_crashed(words, topo, *broker),
         Report::Swept { moment } => push_pair(words, b"swept", *moment),
-        Report::RefusedHosts { line, broker } => push_refused_hosts(words, topo, *line, *broker),
-        Report::RefusedFrame { line, frame, sent } => push_refused_frame(
-            words, *line, *frame, *sent,
-        ),
-        Report::RefusedClock { line, moment } => push_refused_clock(words, *line, *moment),
-        Report::Frames { count } => push_pair(words, b"frames", *count),
-        Report::LogOf {
-            publisher,
-            last,
-            settled,
-            cut,
-            kept,
-        } => push_shown_log(words, topo, *publisher, *last, *settled, *cut, *kept),
-        Report::BytesOf { frame, bytes } => push_bytes(words, *frame, bytes),
+        Report::RefusedHosts { .. } | Report::RefusedFrame { .. } | Report::RefusedClock { .. } => {
+            push_refusal(words, report, topo)
+        }
+        Report::Frames { .. } | Report::LogOf { .. } | Report::BytesOf { .. } => {
+            push_show(words, report, topo)
+        }
         Report::Logged { .. }
         | Report::Already { .. }
         | Report::Gap { .. }
         | Report::Exhausted { .. }
-        | Report::Joined { .. }
-        | Report::AlreadyJoined { .. }
-        | Report::ExhaustedJoin { .. }
         | Report::Kept { .. }
         | Report::Lost { .. } => push_publish(words, report, topo),
-        Report::Opened { .. } | Report::Mark { .. } | Report::Cut { .. } | Report::Damaged { .. } =>
-            push_log_change(words, report, topo),
+        Report::Joined { .. } | Report::AlreadyJoined { .. } | Report::ExhaustedJoin { .. } => {
+            push_join(words, report, topo)
+        }
+        Report::Opened { .. }
+        | Report::Mark { .. }
+        | Report::Cut { .. }
+        | Report::Reclaimed { .. }
+        | Report::Damaged { .. } => push_log_change(words, report, topo),
         Report::Got { .. }
         | Report::Horizon { .. }
         | Report::Ordered { .. }

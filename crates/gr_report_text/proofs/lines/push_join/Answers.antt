@@ -1,7 +1,7 @@
 use Rattle.std.proofs.Common.{◌++◌, ap, sym, ◌∙◌}
 use Rattle.std.proofs.lemmas.Result.{on_ok_weaker}
 use Rattle.gr_model.specs.Text.{row_of}
-use Rattle.gr_report_text.proofs.lines.push_publish.Goals as goal
+use Rattle.gr_report_text.proofs.lines.push_join.Goals as goal
 
 pub returns-in-AlreadyJoined : goal.returns-in-AlreadyJoined
 returns-in-AlreadyJoined c =
