@@ -4,6 +4,7 @@ pub mod Passed
 pub mod TruthTicks
 pub mod CallTruth
 pub mod HostCases
+pub mod Cutting
 pub mod Calls
 pub mod Told
 pub mod Telling

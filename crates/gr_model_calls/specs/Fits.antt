@@ -1,5 +1,6 @@
 -- What holds of every world that a schedule leads to
-use Rattle.std.specs.Prelude.{◌≡◌, ◌≢◌, ℕ, ◌≤◌, ◌<◌, true, nat_eq, List, [], ◌∷◌, length, get_or, None, if◌then◌else◌}
+use Rattle.std.specs.Prelude.{◌≡◌, ◌≢◌, ℕ, ◌≤◌, ◌<◌, true, false, nat_eq, List, [], ◌∷◌, length, get_or, None}
+use Rattle.std.specs.Prelude.{if◌then◌else◌}
 use Rattle.std.specs.List.{list_any}
 use Rattle.gr_know.specs.declared.values.K.TheVariants.{Q}
 use Rattle.gr_curio.specs.declared.asks.Moment.TheVariants.{Never}
@@ -34,11 +35,12 @@ reached_in net w p s = if list_any (λ x. nat_eq x s) (net.subscribers_at (net.a
 abbrev pub facts_of : Net → World → ℕ → Facts
 facts_of net w p = facts (log_of w p) (reached_in net w p)
 
--- a log's events rise, none is past what is settled, nor is its cut
+-- a log's events rise, none is past what is settled, nor is its cut, and it keeps them all
 pub record LogFits (log : Log) : Type 0 where
   pub rise : TicksRise 0 log.events
   pub past : (t : ℕ) → log.settled < t → said_at log.events t ≡ None
   pub cut : log.cut ≤ log.settled
+  pub keeps : log.forgets ≡ false
 
 -- what a horizon needs of the facts: it is not past what is settled, and the subscribers here are there
 pub record IsHorizon (net : Net) (f : Facts) (b h : ℕ) : Type 0 where

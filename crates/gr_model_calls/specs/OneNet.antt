@@ -10,7 +10,8 @@ use Rattle.gr_sched.specs.declared.step.Line.{Line}
 use Rattle.gr_model.specs.declared.report.Report.{Report}
 use Rattle.gr_model.specs.Net.{Net, with_wants, wants_with}
 use Rattle.gr_model.specs.Broker.{Log}
-use Rattle.gr_model.specs.World.{World, Transition, log_of, start, wake_for_by, wake_all_by, deliver_frame_by, publish_now_by, join_now_by}
+use Rattle.gr_model.specs.World.{World, Transition, log_of, start, wake_for_by, wake_all_by, deliver_frame_by}
+use Rattle.gr_model.specs.World.{publish_now_by, join_now_by}
 use Rattle.gr_model.specs.World.{publish_stopped_by, deliver_up_by, wake_up_by, hand_down_by, sweep_for_by, sweep_by}
 use Rattle.gr_model.specs.World.{next_by, run_from_by, report_of_by, run_all_by}
 use Rattle.gr_model.specs.Opening.{opened_for_by, opening_by}

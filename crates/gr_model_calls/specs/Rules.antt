@@ -22,7 +22,7 @@ use Rattle.gr_event.specs.Joins.{Joins, longer, has_joined}
 use Rattle.gr_model.specs.Broker.{View, Log, Outcome, max_tick, is_F, know_frames, expect_frame, up_frames}
 use Rattle.gr_model.specs.Broker.{with_joins, view_joined, with_join}
 use Rattle.gr_model.specs.Broker.{is_consolidated_by, any_C, data_count, place_of, delivery_lines, with_event}
-use Rattle.gr_model.specs.Broker.{with_mark, with_cut}
+use Rattle.gr_model.specs.Broker.{with_mark, reclaims, cut_log_at}
 pub use Rattle.gr_model.specs.Broker.{unmoved, says}
 pub use Rattle.gr_subend.specs.Said.{event_of}
 use Rattle.gr_model_calls.specs.Said.{said_at, TicksRise}
@@ -225,6 +225,11 @@ pub record IsConsolidatedUpto (net : Net) (p b settled a : ℕ) (v : View) : Typ
   pub each : (t : ℕ) → 1 ≤ t → t ≤ a → is_consolidated_by (keeps_horizon net p b) v.horizon v.wants t ≡ true
   pub stops : a < settled → is_consolidated_by (keeps_horizon net p b) v.horizon v.wants (suc a) ≡ false
 
+-- behind the line of a cut: where the cut writes the log anew, the generation after it
+abbrev pub reclaimed_lines : Net → ℕ → Log → List Report
+reclaimed_lines net p log = if reclaims net.reclaim log.size log.generation
+    then line.Reclaimed p (suc log.generation) ∷ [] else []
+
 -- The host is woken
 pub record HostWakes (net : Net) (p b now : ℕ) (v : View) (log : Log) (o : Outcome) : Type 0 where
   -- Where the log was silent for `quiet`, it is marked at now, and the silence up to now is new.
@@ -233,19 +238,20 @@ pub record HostWakes (net : Net) (p b now : ℕ) (v : View) (log : Log) (o : Out
   pub marked : Outcome
   pub marks : log.settled + net.quiet ≤ now → NewTicks net p b silent v (with_mark log now) marked
   pub stays : now < log.settled + net.quiet → marked ≡ unmoved v log
-  -- The log is cut at the greatest settled tick up to which all is consolidated, where that is past the last cut.
+  -- The log is cut at the greatest settled tick up to which all is consolidated, where that is past the last cut. Where
+  -- its text has `reclaim` bytes or more, that writes it anew.
   pub upto : ℕ
   pub upto_is : IsConsolidatedUpto net p b marked.log.settled upto marked.view
-  pub cut : log.cut < upto → o.log ≡ with_cut marked.log upto
+  pub cut : log.cut < upto → o.log ≡ cut_log_at net.reclaim marked.log upto
   pub no_cut : upto ≤ log.cut → o.log ≡ marked.log
   -- Expect of what is settled goes to the children, where anything is.
   pub expected : List Frame
   pub expected_is : 1 ≤ o.log.settled → SendsExpect net p b o.log.settled marked.view expected
   pub none_expected : o.log.settled ≡ 0 → expected ≡ []
   pub frames : o.frames ≡ marked.frames ++ expected
-  -- The lines: the mark, the cut, and what the subscribers are told.
+  -- The lines: the mark, the cut and behind it that the log was written anew, and what the subscribers are told.
   pub lines : o.lines ≡ (if nat_le (log.settled + net.quiet) now then line.Mark p now ∷ [] else [])
-      ++ (if nat_lt log.cut upto then line.Cut p upto ∷ [] else []) ++ marked.lines
+      ++ (if nat_lt log.cut upto then line.Cut p upto ∷ reclaimed_lines net p marked.log else []) ++ marked.lines
   pub view_same : o.view ≡ marked.view
 
 -- A broker is woken

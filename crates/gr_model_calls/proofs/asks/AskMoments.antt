@@ -17,7 +17,7 @@ use Rattle.gr_event.specs.Joins.{Joins, longer}
 use Rattle.gr_model.specs.Net.{Net, is_host, keeps_horizon, numbers}
 use Rattle.gr_model.specs.Broker.{with_joins, drops, joining, View, Log, Outcome, know_frames, want_frames, expect_frame, all_points, any_C, consolidated, finished, is_F, open_asks, kept_view, kept_view_below, forward, new_ticks, forward_frames, learn, due, noted, up_frames, asking, answers, stored, acknowledged, curiosity, wake_below, wanted_at_wake, expect, expect_frames, covers, place_of, publish, silence, with_mark, marking, cutting, wake_host, wake, receive, clashes, empty_log, started, head}
 use Rattle.gr_frame.specs.Bytes.{head_size, known_run_size, wanted_run_size, cut_frames}
-use Rattle.gr_model.specs.World.{join_now_by, World, blank_view, view_of, log_of, with_view, absorbed, restarted, start, deliver_frame_by, publish_now_by, wake_for_by}
+use Rattle.gr_model.specs.World.{join_now_by, World, blank_view, view_of, log_of, with_view, absorbed, restarted, start, start_by, deliver_frame_by, publish_now_by, wake_for_by}
 use Rattle.gr_model_calls.specs.OneNet.{join_now, wake_for, deliver_frame, publish_now, run_all}
 use Rattle.gr_model.specs.Tree.{IsNet}
 use Rattle.gr_model_calls.specs.Fits.{BodyFits, WorldFits, FrameTrue, StepsIn}
@@ -468,7 +468,7 @@ asks_closed net n = record {
 
 -- at the start no ask is past the greatest moment, and no host has one
 pub start_asks : (net : Net) → IsNet net → AsksFit net (start net)
-unfolding start
+unfolding start_by
 start_asks net n =
     let g : ℕ → ℕ → View = λ c p. started net p c empty_log in
     let none : (b q : ℕ) → b < net.brokers → q < net.publishers → (view_of (start net) b q).asks ≡ [] = λ b q i j.

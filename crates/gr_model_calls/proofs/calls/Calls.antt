@@ -18,7 +18,7 @@ use Rattle.gr_know.specs.Values.{Known, known_at, join_K, same_K}
 use Rattle.gr_curio.specs.Values.{Wanted, wanted_at, is_A}
 use Rattle.gr_event.specs.Event.{same_event}
 use Rattle.gr_model.specs.Net.{Net, is_late, all_late, is_host, keeps_horizon}
-use Rattle.gr_model.specs.Broker.{with_joins, with_join, drops, joining, joining_by, View, Log, Outcome, know_frames, want_frames, expect_frame, is_consolidated_by, consolidated, finished, kept_view, kept_view_below, new_ticks, forward, forward_frames, learn, up_frames, asking, curiosity, wake_below, expect, expect_frames, covers, max_tick, place_of, publish, silence, with_event, with_mark, with_cut, marking, cutting, done_upto, wake_host, wake, receive, clashes, head}
+use Rattle.gr_model.specs.Broker.{with_joins, with_join, drops, joining, joining_by, View, Log, Outcome, know_frames, want_frames, expect_frame, is_consolidated_by, consolidated, finished, kept_view, kept_view_below, new_ticks, forward, forward_frames, learn, up_frames, asking, curiosity, wake_below, expect, expect_frames, covers, max_tick, place_of, publish, silence, with_event, with_mark, marking, cutting, done_upto, wake_host, wake, receive, clashes, head}
 use Rattle.gr_frame.specs.Bytes.{known_run_size, wanted_run_size, head_size, cut_frames}
 use Rattle.gr_event.specs.Joins.{Joins, longer}
 use Rattle.gr_pubend.specs.declared.answers.Joined.TheVariants as joins
@@ -28,6 +28,7 @@ use Rattle.gr_model.specs.Tree.{IsPlace, IsNet}
 use Rattle.gr_model_calls.specs.Said.{said_at, TicksRise}
 use Rattle.gr_model_calls.specs.Fits.{facts, LogFits, IsHorizon, ViewTrue, HostKnows, CutTrue, BodyTrue, BodyFits, FrameFits, AllFit}
 use Rattle.gr_model_calls.proofs.calls.HostCases.{publish_cases, marking_cases, joining_cases}
+use Rattle.gr_model_calls.proofs.calls.Cutting.{SameBut, cutting_same, cutting_cut}
 use Rattle.gr_tick.proofs.RunLaws.{first_bottom_from-is, value_at-in, value_at-below, value_at-above}
 use Rattle.gr_model_calls.proofs.calls.TruthTicks.{TrueF-later, concerns_none}
 use Rattle.gr_model_calls.proofs.calls.Told.{said_at-here, said_at-past, said_append, rises_append, TicksUpto}
@@ -334,11 +335,12 @@ with_event_fits log tick e f h = record {
   rise = rises_append 0 log.settled log.events ((tick, e) ∷ []) (omega arith) f.rise (rise_upto 0 log.settled log.events f.rise f.past) (h, tt);
   past = λ t k. said_more log.events tick t e (λ q. omega (arith, q)) ∙ f.past t (omega arith);
   cut = omega (arith, f.cut);
+  keeps = f.keeps;
 }
 
 -- a mark at or past what is settled keeps a log in order
 pub with_mark_fits : (log : Log) (tick : ℕ) → LogFits log → log.settled ≤ tick → LogFits (with_mark log tick)
-with_mark_fits log tick f h = record { rise = f.rise; past = λ t k. f.past t (omega arith); cut = omega (arith, f.cut) }
+with_mark_fits log tick f h = record { rise = f.rise; past = λ t k. f.past t (omega arith); cut = omega (arith, f.cut); keeps = f.keeps }
 
 -- silence at the host, where nothing was logged
 pub silent_true : (net : Net) (f : Facts) (p b t : ℕ) → t ≤ f.settled → f.said t ≡ None → TrueS net f p b t
@@ -505,29 +507,11 @@ done_upto_le : (done : Wanted) (settled : ℕ) → done_upto done settled ≤ se
 unfolding done_upto
 done_upto_le done settled = omega arith
 
--- a log that differs in its cut and gate alone
-pub record SameBut (log new : Log) : Type 0 where
-  pub settled : new.settled ≡ log.settled
-  pub events : new.events ≡ log.events
-  pub joins : new.joins ≡ log.joins
-
--- a cut changes nothing of a log but its cut and its gate
-pub cutting_same : (net : Net) (p b : ℕ) (v : View) (log : Log) → SameBut log (cutting net p b v log)
-unfolding cutting
-cutting_same net p b v log = go (nat_lt log.cut (done_upto (consolidated (keeps_horizon net p b) v.horizon v.wants) log.settled))
-  where
-    go : (q : Bool) → SameBut log (if q then with_cut log (done_upto (consolidated (keeps_horizon net p b) v.horizon v.wants) log.settled) else log)
-    go true = record { settled = refl; events = refl; joins = refl }
-    go false = record { settled = refl; events = refl; joins = refl }
-
--- the cut is the old one, or all up to it is consolidated
-cutting_cut : (net : Net) (p b : ℕ) (v : View) (log : Log) (P : ℕ → Type 0) → P log.cut → P (done_upto (consolidated (keeps_horizon net p b) v.horizon v.wants) log.settled) → P (cutting net p b v log).cut
-unfolding cutting
-cutting_cut net p b v log P old new = go (nat_lt log.cut (done_upto (consolidated (keeps_horizon net p b) v.horizon v.wants) log.settled))
-  where
-    go : (q : Bool) → (let l : Log = if q then with_cut log (done_upto (consolidated (keeps_horizon net p b) v.horizon v.wants) log.settled) else log in P l.cut)
-    go true = new
-    go false = old
+-- a mark does not change whether the log forgets
+pub marking_forgets : (net : Net) (p b now : ℕ) (v : View) (log : Log) → (marking net p b now v log).log.forgets ≡ log.forgets
+marking_forgets net p b now v log =
+    marking_cases net p b now v log (λ o. o.log.forgets ≡ log.forgets)
+    (λ e. ap (λ (l : Log). l.forgets) (learn_log net p b (silence (suc log.settled) now []) v (with_mark log now))) (λ e. refl)
 
 facts_same : (log new : Log) (reached : ℕ → ℕ) → SameBut log new → facts new reached ≡ facts log reached
 facts_same log new reached s = λ i. record { settled = s.settled i; said = said_at (s.events i); reached = reached; joined = s.joins i }
@@ -537,12 +521,13 @@ cut_call : (net : Net) (p b : ℕ) (v : View) (log : Log) (reached : ℕ → ℕ
     CallTrue net p b v log reached (record { view = o.view; log = cutting net p b o.view o.log; lines = ls; frames = o.frames ++ fs })
 cut_call net p b v log reached o ls fs n i j host c fits told =
     let new = cutting net p b o.view o.log in
-    let s = cutting_same net p b o.view o.log in
+    let s = cutting_same net p b o.view o.log c.log_fits.keeps in
     record {
       log_fits = record {
         rise = subst (λ x. TicksRise 0 x) (sym s.events) c.log_fits.rise;
         past = λ t x. ap (λ y. said_at y t) s.events ∙ c.log_fits.past t (subst (λ y. y < t) s.settled x);
         cut = subst (λ y. new.cut ≤ y) (sym s.settled) (cutting_cut net p b o.view o.log (λ y. y ≤ o.log.settled) c.log_fits.cut (done_upto_le (consolidated (keeps_horizon net p b) o.view.horizon o.view.wants) o.log.settled));
+        keeps = s.forgets ∙ c.log_fits.keeps;
       };
       settled = subst (λ y. log.settled ≤ y) (sym s.settled) c.settled;
       said = λ t x. ap (λ y. said_at y t) s.events ∙ c.said t x;
@@ -665,5 +650,5 @@ joining_call net p b now s v log reached n late i j host fit h =
           | inl z ↦ inr (λ q. S_not_Q (sym (silence_in (suc log.settled) tick [] t z y) ∙ q))
           | inr z ↦ inl (old t x z)
         ]) in
-        logged_first net p b v u log new reached (learn net p b piece u new) _ host (omega arith) (λ t x. refl) refl grows (λ a. all_late_on net log.joins (record { subscriber = s; tick = tick } ∷ []) a (and_from (is_late net s) true late refl)) (le_refl v.horizon) (λ x. refl) (learn_call net p b piece u new reached n i j (record { rise = fit.rise; past = λ t x. fit.past t (omega arith); cut = omega (arith, fit.cut) }) u' k (own new.joins (HasEvent piece)))
+        logged_first net p b v u log new reached (learn net p b piece u new) _ host (omega arith) (λ t x. refl) refl grows (λ a. all_late_on net log.joins (record { subscriber = s; tick = tick } ∷ []) a (and_from (is_late net s) true late refl)) (le_refl v.horizon) (λ x. refl) (learn_call net p b piece u new reached n i j (record { rise = fit.rise; past = λ t x. fit.past t (omega arith); cut = omega (arith, fit.cut); keeps = fit.keeps }) u' k (own new.joins (HasEvent piece)))
         (λ old. subst (λ x. HostKnows (learn net p b piece u new).view x.settled) (sym (learn_log net p b piece u new)) (known old))

@@ -23,7 +23,7 @@ use Rattle.gr_event.specs.Joins.{Joins, longer, has_joined}
 use Rattle.gr_frame.specs.declared.Body.{Body}
 use Rattle.gr_frame.specs.declared.Body.TheVariants as body
 use Rattle.gr_pubend.specs.declared.answers.Joined.TheVariants as joins
-use Rattle.gr_model.specs.Broker.{with_joins, with_join, drops, receive, place_of, joining, joining_by, joined_at, View, Log, Outcome, head, know_frames, up_frames, got_line, delivery_lines, data_ticks, horizon_after, new_ticks, pass_points, passed, forward, still_wanted, forward_frames, forward_wants, learn, consolidated, finished, kept_view, due, noted, acknowledged, answers_of, answers, stored, curiosity, max_tick, silence, with_mark, with_event, expect_frames, asking, expect, wake_below, published, quieted, publish_by, marking_by, publish, cutting, marking, wake_host, wake}
+use Rattle.gr_model.specs.Broker.{with_joins, with_join, drops, receive, place_of, joining, joining_by, joined_at, View, Log, Outcome, head, know_frames, up_frames, got_line, delivery_lines, data_ticks, horizon_after, new_ticks, pass_points, passed, forward, still_wanted, forward_frames, forward_wants, learn, consolidated, finished, kept_view, due, noted, acknowledged, answers_of, answers, stored, curiosity, max_tick, silence, with_mark, with_event, expect_frames, asking, expect, wake_below, published, quieted, publish_by, marking_by, publish, cutting, cutting_lines, marking, wake_host, wake}
 use Rattle.gr_pubend.specs.declared.answers.Published.{Published}
 use Rattle.gr_pubend.specs.declared.answers.Published.TheVariants.{Logged, Already, Gap, Exhausted}
 use Rattle.gr_pubend.specs.declared.answers.Quieted.{Quieted}
@@ -295,7 +295,7 @@ wake_agree net f g p b now v log r i h = go (is_host net p b)
           view = o.view;
           log = cut;
           lines = (if nat_lt log.settled o.log.settled then line.Mark p now ∷ [] else [])
-              ++ (if nat_lt o.log.cut cut.cut then line.Cut p cut.cut ∷ [] else [])
+              ++ cutting_lines p o.log cut
               ++ o.lines;
           frames = o.frames ++ (if nat_lt 0 cut.settled then expect_frames p b cut.settled (net.children p b) o.view.wants else []);
         }

@@ -18,7 +18,7 @@ use Rattle.gr_model.specs.Net.{Net, keeps_horizon, is_host}
 use Rattle.gr_event.specs.Joins.{Joins, longer}
 use Rattle.gr_pubend.specs.declared.answers.Joined.TheVariants as joins
 use Rattle.gr_model_calls.proofs.calls.Held.{own, both, fewer, grows_not}
-use Rattle.gr_model.specs.Broker.{with_joins, with_join, drops, max_tick, joining, joining_by, View, Log, Outcome, data_ticks, got_line, delivery_lines, learn, wake_below, asking, expect, curiosity, receive, clashes, place_of, marking, cutting, wake_host, wake, publish, silence, with_event, with_mark}
+use Rattle.gr_model.specs.Broker.{with_joins, with_join, drops, max_tick, joining, joining_by, View, Log, Outcome, data_ticks, got_line, delivery_lines, learn, wake_below, asking, expect, curiosity, receive, clashes, place_of, marking, cutting, cutting_lines, wake_host, wake, publish, silence, with_event, with_mark}
 use Rattle.gr_model.specs.World.{sent_line, sent_lines}
 use Rattle.gr_model.specs.Headline.{delivered_events, last_horizon, HorizonsRise}
 use Rattle.gr_model_calls.specs.Truth.{Holds, HasEvent, Grows, KnowsTruth}
@@ -27,7 +27,8 @@ use Rattle.gr_model_calls.specs.Steady.{Steady}
 use Rattle.gr_model_calls.specs.Fits.{facts, LogFits, ViewTrue, BodyTrue}
 use Rattle.gr_model.specs.Tree.{IsNet, IsDistinct}
 use Rattle.gr_model_calls.proofs.calls.HostCases.{publish_cases, marking_cases, joining_cases, news_of}
-use Rattle.gr_model_calls.proofs.calls.Calls.{learn_horizon, learn_log, trimmed_horizon, silence_true, later_facts, with_event_fits, with_mark_fits, said_more, nothing_true, cutting_same, published_piece}
+use Rattle.gr_model_calls.proofs.calls.Calls.{learn_horizon, learn_log, trimmed_horizon, silence_true, later_facts, with_event_fits, with_mark_fits, said_more, nothing_true, marking_forgets, published_piece}
+use Rattle.gr_model_calls.proofs.calls.Cutting.{cutting_same}
 use Rattle.gr_model_calls.proofs.calls.Told.{told_is_due, Items, said_equal, filter-rises, said_at-filter, kept_by, TicksUpto, TicksRise-lower}
 use Rattle.gr_model_calls.proofs.calls.CallTruth.{joined_true, horizon_after-is, learned_horizon, ViewTrue-later, ViewTrue-joins}
 
@@ -334,16 +335,24 @@ if_silent : (q : Bool) (l : Report) → Silent (l ∷ []) → Silent (if q then 
 if_silent true l n = n
 if_silent false l n = nil_silent
 
+cutting_silent : (p : ℕ) (log new : Log) → Silent (cutting_lines p log new)
+cutting_silent p log new = go (nat_lt log.cut new.cut) (nat_lt log.generation new.generation)
+  where
+    go : (q r : Bool) → Silent (if q then line.Cut p new.cut ∷ (if r then line.Reclaimed p new.generation ∷ [] else []) else [])
+    go true true = λ x q. record { got = refl; horizon = λ n. refl; steady = λ n. refl }
+    go true false = λ x q. record { got = refl; horizon = λ n. refl; steady = λ n. refl }
+    go false r = nil_silent
+
 wake_host_tells : (net : Net) (p b now : ℕ) (v : View) (log : Log) (reached : ℕ → ℕ) → IsNet net → p < net.publishers → b < net.brokers → is_host net p b ≡ true → LogFits log → ViewTrue net (facts log reached) p b v → Exact net b v reached → CallTells net p b v (wake_host net p b now v log)
 unfolding wake_host
 wake_host_tells net p b now v log reached n i j host fit h exact =
     let o = marking net p b now v log in
-    let s = cutting_same net p b o.view o.log in
+    let s = cutting_same net p b o.view o.log (marking_forgets net p b now v log ∙ fit.keeps) in
     let mark : List Report = if nat_lt log.settled o.log.settled then line.Mark p now ∷ [] else [] in
-    let cut : List Report = if nat_lt o.log.cut (cutting net p b o.view o.log).cut then line.Cut p (cutting net p b o.view o.log).cut ∷ [] else [] in
+    let cut : List Report = cutting_lines p o.log (cutting net p b o.view o.log) in
     subst (λ z. DeliversUpto net p b v.horizon o.view.horizon z (wake_host net p b now v log).lines) (sym s.events)
     (Tells-before net p b v.horizon o.view.horizon o.log.events (mark ++ cut) o.lines
-    (λ x q. Neutral-append x q mark cut (if_silent (nat_lt log.settled o.log.settled) (line.Mark p now) (λ x q. record { got = refl; horizon = λ n. refl; steady = λ n. refl }) x q) (if_silent (nat_lt o.log.cut (cutting net p b o.view o.log).cut) (line.Cut p (cutting net p b o.view o.log).cut) (λ x q. record { got = refl; horizon = λ n. refl; steady = λ n. refl }) x q))
+    (λ x q. Neutral-append x q mark cut (if_silent (nat_lt log.settled o.log.settled) (line.Mark p now) (λ x q. record { got = refl; horizon = λ n. refl; steady = λ n. refl }) x q) (cutting_silent p o.log (cutting net p b o.view o.log) x q))
     (marking_tells net p b now v log reached n i j host fit h exact))
 
 -- a wake delivers exactly what is due between the horizon before and after
@@ -386,7 +395,7 @@ joining_tells net p b now s v log reached n i j fit h exact =
     (λ e l.
     let grows : Grows log.joins new.joins log.settled = (record { subscriber = s; tick = tick } ∷ [], refl, (omega arith, tt)) in
     Tells-before net p b v.horizon o.view.horizon o.log.events (line.Joined s p tick ∷ []) o.lines (λ x q. record { got = refl; horizon = λ n. refl; steady = λ n. refl })
-    (learn_call_tells net p b (silence (suc log.settled) tick []) (with_joins v new.joins) new reached n i j (record { rise = fit.rise; past = λ t x. fit.past t (omega arith); cut = omega (arith, fit.cut) })
+    (learn_call_tells net p b (silence (suc log.settled) tick []) (with_joins v new.joins) new reached n i j (record { rise = fit.rise; past = λ t x. fit.past t (omega arith); cut = omega (arith, fit.cut); keeps = fit.keeps })
     (ViewTrue-joins net (facts new reached) p b v new.joins (ViewTrue-later net (facts log reached) (facts new reached) p b v (later_facts log new reached reached (omega arith) (λ t x. refl) (λ s. le_refl (reached s)) grows) h) (own new.joins (HasEvent v.know)))
     (silence_true net (facts new reached) p b (suc log.settled) tick [] (omega arith) (le_refl tick) (λ t x y. fit.past t x) (nothing_true net (facts new reached) p b) tt tt) exact))
   where

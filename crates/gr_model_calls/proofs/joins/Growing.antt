@@ -9,12 +9,13 @@ use Rattle.gr_frame.specs.declared.Body.TheVariants as body
 use Rattle.gr_frame.specs.declared.Frame.{Frame}
 use Rattle.gr_know.specs.Values.{Known}
 use Rattle.gr_model.specs.Net.{Net, is_host}
-use Rattle.gr_model.specs.Broker.{View, Log, Outcome, with_event, with_joins, drops, learn, curiosity, expect, asking, marking, cutting, wake_host, wake_below, wake, publish, joining, receive, place_of, empty_log}
+use Rattle.gr_model.specs.Broker.{View, Log, Outcome, with_event, with_joins, drops, learn, curiosity, expect, asking, marking, wake_host, wake_below, wake, publish, joining, receive, place_of, empty_log}
 use Rattle.gr_model.specs.World.{World, view_of, log_of, absorbed, wake_for_by, deliver_frame_by, publish_now_by, join_now_by, restarted}
 use Rattle.gr_model_calls.specs.Truth.{Grows}
 use Rattle.gr_model_calls.proofs.calls.Held.{grows_not, grows_on}
 use Rattle.gr_model_calls.proofs.calls.HostCases.{publish_cases, marking_cases, joining_cases}
-use Rattle.gr_model_calls.proofs.calls.Calls.{learn_log, cutting_same}
+use Rattle.gr_model_calls.proofs.calls.Calls.{learn_log}
+use Rattle.gr_model_calls.proofs.calls.Cutting.{cutting_settled, cutting_joins}
 use Rattle.gr_model_calls.proofs.runs.Closed.{clocked, with_logs}
 use Rattle.gr_model_calls.proofs.runs.Seeing.{Back, Backs}
 
@@ -39,8 +40,10 @@ wake_on net p b now v log = go (is_host net p b)
         (λ e. still_on log)
 
     go : (q : Bool) → (let o : Outcome = elim q [ true ↦ wake_host net p b now v log | false ↦ wake_below net p b now v log ] in GoesOn log o.log)
-    go true = let o = marking net p b now v log in let s = cutting_same net p b o.view o.log in
-        record { settled = subst (λ y. log.settled ≤ y) (sym s.settled) marked.settled; joined = subst (λ y. Grows log.joins y log.settled) (sym s.joins) marked.joined }
+    go true = let o = marking net p b now v log in record {
+      settled = subst (λ y. log.settled ≤ y) (sym (cutting_settled net p b o.view o.log)) marked.settled;
+      joined = subst (λ y. Grows log.joins y log.settled) (sym (cutting_joins net p b o.view o.log)) marked.joined;
+    }
     go false = still_on log
 
 receive_on : (net : Net) (now : ℕ) (f : Frame) (v : View) (log : Log) → GoesOn log (receive net now f v log).log

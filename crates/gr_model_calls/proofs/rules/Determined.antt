@@ -19,9 +19,9 @@ use Rattle.gr_tick.specs.Runs.{AreRunsFrom}
 use Rattle.gr_know.specs.Values.{Known, known_at, is_Q, is_D, join_K}
 use Rattle.gr_curio.specs.Values.{Wanted, Asked, wanted_at, asked_at, is_C}
 use Rattle.gr_model.specs.Net.{Net, keeps_horizon, is_host}
-use Rattle.gr_model.specs.Broker.{with_join, view_joined, View, Log, Outcome, max_tick, is_F, know_frames, expect_frame, up_frames, is_consolidated_by, data_count, place_of, delivery_lines, with_event, with_mark, with_cut}
+use Rattle.gr_model.specs.Broker.{with_join, view_joined, View, Log, Outcome, max_tick, is_F, know_frames, expect_frame, up_frames, is_consolidated_by, data_count, place_of, delivery_lines, with_event, with_mark, cut_log_at}
 use Rattle.gr_model.specs.Tree.{IsNet, IsDistinct}
-use Rattle.gr_model_calls.specs.Rules.{TakesJoin, HasKnown, HasWanted, HasAsked, IsChild, wants_from, Moves, Forgets, Knows, DeliversOn, NewTicks, ChildAsks, Asks, wanted_by_age, wanted_upto, SendsExpect, Expects, IsConsolidatedUpto, HostWakes, Wakes, Publishes, RulesDetermine}
+use Rattle.gr_model_calls.specs.Rules.{TakesJoin, HasKnown, HasWanted, HasAsked, IsChild, wants_from, Moves, Forgets, Knows, DeliversOn, NewTicks, ChildAsks, Asks, wanted_by_age, wanted_upto, SendsExpect, Expects, IsConsolidatedUpto, reclaimed_lines, HostWakes, Wakes, Publishes, RulesDetermine}
 use Rattle.gr_tick.proofs.RunLaws.{runs_equal, value_at-in, value_at-below, value_at-above, value_at-start}
 use Rattle.gr_model_calls.proofs.calls.Told.{said_equal}
 use Rattle.gr_model_calls.proofs.rules.CallRules.{flat_map_same, apart}
@@ -347,7 +347,7 @@ upto_same net p b settled x y v a c =
 host_wakes_same : (net : Net) (p b now : ℕ) (v : View) (log : Log) (o u : Outcome) → IsDistinct (net.children p b) → HostWakes net p b now v log o → HostWakes net p b now v log u → o ≡ u
 host_wakes_same net p b now v log o u distinct a c =
     outcome_same o u (a.view_same ∙ (ap (λ x. x.view) marked ∙ sym c.view_same)) logs
-    (a.lines ∙ (ap₂ (λ x y. (if nat_le (log.settled + net.quiet) now then line.Mark p now ∷ [] else []) ++ (if nat_lt log.cut x then line.Cut p x ∷ [] else []) ++ y) upto (ap (λ x. x.lines) marked) ∙ sym c.lines))
+    (a.lines ∙ (ap₂ (λ x (y : Outcome). (if nat_le (log.settled + net.quiet) now then line.Mark p now ∷ [] else []) ++ (if nat_lt log.cut x then line.Cut p x ∷ reclaimed_lines net p y.log else []) ++ y.lines) upto marked ∙ sym c.lines))
     (a.frames ∙ (ap₂ (λ x y. x ++ y) (ap (λ x. x.frames) marked) expected ∙ sym c.frames))
   where
     silent : a.silent ≡ c.silent
@@ -366,7 +366,7 @@ host_wakes_same net p b now v log o u distinct a c =
     logs : o.log ≡ u.log
     logs =
         elim (cases_lt log.cut a.upto) [
-          | inl l ↦ a.cut l ∙ (ap₂ (λ (x : Outcome) y. with_cut x.log y) marked upto ∙ sym (c.cut (subst (λ x. log.cut < x) upto l)))
+          | inl l ↦ a.cut l ∙ (ap₂ (λ (x : Outcome) y. cut_log_at net.reclaim x.log y) marked upto ∙ sym (c.cut (subst (λ x. log.cut < x) upto l)))
           | inr l ↦ a.no_cut l ∙ (ap (λ x. x.log) marked ∙ sym (c.no_cut (subst (λ x. x ≤ log.cut) upto l)))
         ]
 

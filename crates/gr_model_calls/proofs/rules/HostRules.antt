@@ -16,16 +16,17 @@ use Rattle.gr_model.specs.declared.report.Report.TheVariants as line
 use Rattle.gr_tick.specs.Runs.{AreRuns, first_bottom_from}
 use Rattle.gr_know.specs.Values.{Known, known_at}
 use Rattle.gr_model.specs.Net.{Net, is_host, keeps_horizon}
-use Rattle.gr_model.specs.Broker.{joined_at, with_joins, with_join, view_joined, joining, drops, View, Log, Outcome, is_consolidated_by, consolidated, learn, max_tick, expect_frames, place_of, publish, silence, with_event, with_mark, with_cut, marking, cutting, done_upto, wake_host, wake_below, wake, receive, clashes, curiosity, expect, published}
+use Rattle.gr_model.specs.Broker.{joined_at, with_joins, with_join, view_joined, joining, drops, View, Log, Outcome, is_consolidated_by, consolidated, learn, max_tick, expect_frames, place_of, publish, silence, with_event, with_mark, marking, cut_log_at, cutting, done_upto, wake_host, wake_below, wake, receive, clashes, curiosity, expect, published}
 use Rattle.gr_model.specs.Tree.{IsNet}
 use Rattle.gr_model_calls.specs.Truth.{Facts, KnowsTruth, AllWantTruth}
 use Rattle.gr_model_calls.specs.Fits.{facts, LogFits, ViewTrue, BodyTrue, BodyFits, FrameFits}
-use Rattle.gr_model_calls.specs.Rules.{TakesJoin, HasKnown, NewTicks, Asks, wanted_by_age, SendsExpect, unmoved, silence_upto, IsConsolidatedUpto, HostWakes, Wakes, event_upto, Publishes, Comes}
+use Rattle.gr_model_calls.specs.Rules.{TakesJoin, HasKnown, NewTicks, Asks, wanted_by_age, SendsExpect, unmoved, silence_upto, IsConsolidatedUpto, reclaimed_lines, HostWakes, Wakes, event_upto, Publishes, Comes}
 use Rattle.gr_model_calls.proofs.calls.HostCases.{marking_cases}
 use Rattle.gr_tick.proofs.RunLaws.{first_bottom_from-is, value_at-in, value_at-below, value_at-above}
 use Rattle.gr_model_calls.proofs.calls.CallTruth.{ViewTrue-joins, ViewTrue-later, done_runs, done_values}
 use Rattle.gr_model_calls.proofs.calls.Calls.{ComeOn, run_at, said_more, silence_true, silence_in, silence_above, nothing_true, published_piece, later_facts, marking_call}
 use Rattle.gr_model_calls.proofs.runs.Clash.{nothing_drops}
+use Rattle.gr_model_calls.proofs.calls.Cutting.{cut_at, cutting_told}
 use Rattle.gr_model_calls.proofs.rules.CallRules.{new_ticks_rule, wake_below_rule, expects_on, expects_rule, child_asks_rule}
 
 -- Pieces of the host
@@ -139,27 +140,13 @@ consolidated_upto net f p b settled v a =
           subst (λ t. is_consolidated_by (keeps_horizon net p b) v.horizon v.wants t ≡ false) (sym s) (N_of (is_consolidated_by (keeps_horizon net p b) v.horizon v.wants u) (sym (done_values net f p b v.horizon v.wants a u) ∙ i.stops));
     }
 
-abbrev cut_at : Net → ℕ → ℕ → View → Log → ℕ
-cut_at net p b v log = done_upto (consolidated (keeps_horizon net p b) v.horizon v.wants) log.settled
-
-cut_yes : (net : Net) (p b : ℕ) (v : View) (log : Log) → log.cut < cut_at net p b v log → cutting net p b v log ≡ with_cut log (cut_at net p b v log)
+cut_yes : (net : Net) (p b : ℕ) (v : View) (log : Log) → log.cut < cut_at net p b v log → cutting net p b v log ≡ cut_log_at net.reclaim log (cut_at net p b v log)
 unfolding cutting
 cut_yes net p b v log l = rw (lt-ltb log.cut (cut_at net p b v log) l) refl
 
 cut_no : (net : Net) (p b : ℕ) (v : View) (log : Log) → cut_at net p b v log ≤ log.cut → cutting net p b v log ≡ log
 unfolding cutting
 cut_no net p b v log l = rw (le-ltb log.cut (cut_at net p b v log) l) refl
-
-cut_told : (net : Net) (p b : ℕ) (v : View) (log : Log) → (if nat_lt log.cut (cutting net p b v log).cut then line.Cut p (cutting net p b v log).cut ∷ [] else []) ≡ (if nat_lt log.cut (cut_at net p b v log) then line.Cut p (cut_at net p b v log) ∷ [] else [])
-unfolding cutting
-cut_told net p b v log = go (nat_lt log.cut (cut_at net p b v log)) refl
-  where
-    a : ℕ
-    a = cut_at net p b v log
-
-    go : (q : Bool) → nat_lt log.cut a ≡ q → (let new : Log = if q then with_cut log a else log in (if nat_lt log.cut new.cut then line.Cut p new.cut ∷ [] else [])) ≡ (if q then line.Cut p a ∷ [] else [])
-    go true e = ap (λ q. if q then line.Cut p a ∷ [] else []) e
-    go false e = ap (λ q. if q then line.Cut p log.cut ∷ [] else []) (le-ltb log.cut log.cut (le_refl log.cut))
 
 -- what the children have is true after the mark too
 marked_wants : (net : Net) (p b now : ℕ) (v : View) (log : Log) (reached : ℕ → ℕ) → IsNet net → p < net.publishers → b < net.brokers → is_host net p b ≡ true → LogFits log → ViewTrue net (facts log reached) p b v → v.joins ≡ log.joins →
@@ -195,7 +182,7 @@ host_wakes_rule net p b now v log reached n quiet i j host fit h js =
       none_expected = λ e. ap (λ x. if nat_lt 0 x then fs else []) e;
       frames = refl;
       lines = ap₂ (λ x y. (if x then line.Mark p now ∷ [] else []) ++ y ++ m.lines) (marked_test net p b now v log quiet)
-          (cut_told net p b m.view m.log ∙ ap (λ x. if nat_lt x a then line.Cut p a ∷ [] else []) same);
+          (cutting_told net p b m.view m.log ∙ ap (λ x. if nat_lt x a then line.Cut p a ∷ reclaimed_lines net p m.log else []) same);
       view_same = refl;
     }
 

@@ -1,5 +1,5 @@
 -- What every call, clock and restart keeps holds of every world that a schedule leads to
-use Rattle.std.proofs.Common.{◌≡◌, inl, inr, ℕ, suc, zero, ◌<◌, max, Bool, true, false, ◌&&◌, List, [], ◌∷◌, refl, subst, length, set, Option, Some, None, arith}
+use Rattle.std.proofs.Common.{◌≡◌, inl, inr, ℕ, suc, zero, ◌-◌, ◌<◌, max, Bool, true, false, ◌&&◌, List, [], ◌∷◌, refl, subst, length, set, Option, Some, None, arith}
 use Rattle.std.specs.Prelude.{nat_eq, nat_le, nat_lt, if◌then◌else◌, filter, slice_get}
 use Rattle.std.proofs.lemmas.Bool.{cases_Bool}
 use Rattle.gr_event.specs.declared.event.Event.{Event}
@@ -186,7 +186,7 @@ publish_stopped_holds net R P w k p number stop e n c f h j = host_at (not_empty
     tick = max (suc log.settled) w.clock
 
     kept : Bool
-    kept = is_kept log.gate stop.call stop.pick
+    kept = is_kept (log.size - 1) stop.call stop.pick
 
     logs : List Log
     logs = if kept then set w.logs p (with_event log tick e) else w.logs

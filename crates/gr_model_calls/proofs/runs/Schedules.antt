@@ -1,5 +1,5 @@
 -- Every world that a schedule leads to fits
-use Rattle.std.proofs.Common.{◌≡◌, ◌≢◌, inl, inr, ℕ, suc, zero, ◌+◌, ◌≤◌, ◌<◌, max, Bool, true, false, ◌&&◌, List, [], ◌∷◌, ◌++◌, map, length, set, get_or, refl, sym, ap, ap₂, ◌∙◌, subst, Option, Some, None, arith, le_trans, le_refl}
+use Rattle.std.proofs.Common.{◌≡◌, ◌≢◌, inl, inr, ℕ, suc, zero, ◌+◌, ◌-◌, ◌≤◌, ◌<◌, max, Bool, true, false, ◌&&◌, List, [], ◌∷◌, ◌++◌, map, length, set, get_or, refl, sym, ap, ap₂, ◌∙◌, subst, Option, Some, None, arith, le_trans, le_refl}
 use Rattle.std.specs.Prelude.{nat_eq, nat_le, nat_lt, if◌then◌else◌, slice_get, flat_map}
 use Rattle.std.specs.List.{list_any}
 use Rattle.std.proofs.lemmas.Bool.{and_parts, cases_Bool, cases_eq, true≢false, eqb-true, eq-eqb, ne_eqb, both_ways, le-leb, lt-leb, leb-true, and_right}
@@ -19,7 +19,7 @@ use Rattle.gr_tick.specs.Runs.{IsNone}
 use Rattle.gr_know.specs.Values.{same_K}
 use Rattle.gr_model.specs.Net.{Net, is_late, all_late, is_host, not_empty, numbers, numbers_from, keeps_horizon}
 use Rattle.gr_model.specs.Broker.{View, Log, empty_log, with_event, event_at, log_at, event_points, log_know, started, is_kept, max_tick}
-use Rattle.gr_model.specs.World.{World, Transition, blank_view, view_of, log_of, unchanged, followed_by, in_turn, frame_at, restarted, crash, sweep_moment, start, show, opened_lines, kept_events, next_by, publish_stopped_by, run_from_by, sweep_by}
+use Rattle.gr_model.specs.World.{World, Transition, blank_view, view_of, log_of, unchanged, followed_by, in_turn, frame_at, restarted, crash, sweep_moment, start, start_by, show, opened_lines, kept_events, next_by, publish_stopped_by, run_from_by, sweep_by}
 use Rattle.gr_model_calls.specs.OneNet.{deliver_frame, publish_now, join_now, publish_stopped, wake_all, sweep_for, sweep, next, run_from, run_all}
 use Rattle.gr_frame.specs.Bytes.{frame_bytes}
 use Rattle.gr_model_calls.specs.Truth.{Holds, HasEvent, Grows, Facts, IsTrueAt, KnowsTruth, AllWantTruth, IsLater}
@@ -327,7 +327,7 @@ publish_stopped_kept net w k p number stop e n f j = host_at (not_empty (net.sub
     tick = max (suc log.settled) w.clock
 
     kept : Bool
-    kept = is_kept log.gate stop.call stop.pick
+    kept = is_kept (log.size - 1) stop.call stop.pick
 
     logs : List Log
     logs = if kept then set w.logs p (with_event log tick e) else w.logs
@@ -474,11 +474,11 @@ next_kept net w l n f i = go l.step i
 -- The start, and every schedule
 
 empty_fits : LogFits empty_log
-empty_fits = record { rise = tt; past = λ t x. refl; cut = le_refl 0 }
+empty_fits = record { rise = tt; past = λ t x. refl; cut = le_refl 0; keeps = refl }
 
 -- at the start each view is that of a broker that starts from an empty log
 pub start_is : (net : Net) (b q : ℕ) → b < net.brokers → q < net.publishers → view_of (start net) b q ≡ started net q b empty_log
-unfolding start
+unfolding start_by
 start_is net b q i j =
     let g : ℕ → ℕ → View = λ c p. started net p c empty_log in
     ap (λ row. get_or row q blank_view) (get_numbers (λ c. map (g c) (numbers net.publishers)) 0 net.brokers b [] i)
@@ -486,7 +486,7 @@ start_is net b q i j =
 
 -- at the start each log is empty
 pub start_log : (net : Net) (q : ℕ) → q < net.publishers → log_of (start net) q ≡ empty_log
-unfolding start
+unfolding start_by
 start_log net q j = get_numbers (λ p. empty_log) 0 net.publishers q empty_log j
 
 record StartShape (net : Net) : Type 0 where
@@ -496,7 +496,7 @@ record StartShape (net : Net) : Type 0 where
   frames : (start net).frames ≡ []
 
 start_shape : (net : Net) → StartShape net
-unfolding start
+unfolding start_by
 start_shape net =
     let g : ℕ → ℕ → View = λ c p. started net p c empty_log in
     record {

@@ -1,5 +1,5 @@
 -- A run in which each call sees a net of its own is the run on one net, where each call does the same on both
-use Rattle.std.proofs.Common.{◌≡◌, ◌⊎◌, inl, inr, ⊎_elim, ℕ, suc, zero, ◌<◌, max, Bool, true, false, ◌&&◌, List, [], ◌∷◌, ◌++◌, refl, sym, subst, ap, ◌∙◌, length, set, Option, Some, None, arith}
+use Rattle.std.proofs.Common.{◌≡◌, ◌⊎◌, inl, inr, ⊎_elim, ℕ, suc, zero, ◌-◌, ◌<◌, max, Bool, true, false, ◌&&◌, List, [], ◌∷◌, ◌++◌, refl, sym, subst, ap, ◌∙◌, length, set, Option, Some, None, arith}
 use Rattle.std.specs.Prelude.{nat_eq, nat_le, nat_lt, if◌then◌else◌, filter}
 use Rattle.gr_event.specs.declared.event.Event.{Event}
 use Rattle.gr_frame.specs.declared.Frame.{Frame}
@@ -12,7 +12,7 @@ use Rattle.gr_model.specs.declared.report.Report.{Report}
 use Rattle.gr_model.specs.declared.report.Report.TheVariants as line
 use Rattle.gr_model.specs.Net.{Net, not_empty, numbers, with_wants}
 use Rattle.gr_model.specs.Broker.{View, Log, started, with_event, is_kept, max_tick}
-use Rattle.gr_model.specs.World.{World, Transition, log_of, unchanged, followed_by, in_turn, wake_for_by, wake_all_by, deliver_frame_by, publish_now_by, join_now_by, deliver_up_by, wake_up_by, hand_down_by, sweep_for_by, sweep_by, sweep_moment, frames_past, sent_since, is_want, is_know_to, outwards, inwards, numbers_down, frame_at, restarted, crash, publish_stopped_by, next_by, start, show, run_from_by, run_all_by, report_of_by, opened_lines}
+use Rattle.gr_model.specs.World.{World, Transition, log_of, unchanged, followed_by, in_turn, wake_for_by, wake_all_by, deliver_frame_by, publish_now_by, join_now_by, deliver_up_by, wake_up_by, hand_down_by, sweep_for_by, sweep_by, sweep_moment, frames_past, sent_since, is_want, is_know_to, outwards, inwards, numbers_down, frame_at, restarted, crash, publish_stopped_by, next_by, start, start_by, show, run_from_by, run_all_by, report_of_by, opened_lines}
 use Rattle.gr_model_calls.specs.OneNet.{wake_for, wake_all, deliver_frame, publish_now, join_now, deliver_up, wake_up, hand_down, sweep_for, sweep, publish_stopped, next, run_from, run_all, report_of}
 use Rattle.gr_model.specs.Tree.{IsNet}
 use Rattle.gr_model_calls.specs.Fits.{WorldFits, FrameTrue, StepIn, StepsIn}
@@ -135,11 +135,11 @@ module _ (net : Net) (see : View → Net) (B : World → Type 0) (k : Backs net 
       again true b = k.kept w p e (net.host p) b
       again false b = k.again w (net.host p) b
 
-      number_at : (q : Bool) → (let t : Transition = elim q [ false ↦ publish_now_by see net w p number e | true ↦ stopped (is_kept log.gate stop.call stop.pick) ] in B t.world) → B w
+      number_at : (q : Bool) → (let t : Transition = elim q [ false ↦ publish_now_by see net w p number e | true ↦ stopped (is_kept (log.size - 1) stop.call stop.pick) ] in B t.world) → B w
       number_at false b = k.published p number e w b
-      number_at true b = again (is_kept log.gate stop.call stop.pick) b
+      number_at true b = again (is_kept (log.size - 1) stop.call stop.pick) b
 
-      host_at : (q : Bool) → (let t : Transition = elim q [ true ↦ unchanged w (line.RefusedHosts i (net.host p) ∷ []) | false ↦ elim (nat_eq number (suc log.last) && nat_le tick max_tick) [ false ↦ publish_now_by see net w p number e | true ↦ stopped (is_kept log.gate stop.call stop.pick) ] ] in B t.world) → B w
+      host_at : (q : Bool) → (let t : Transition = elim q [ true ↦ unchanged w (line.RefusedHosts i (net.host p) ∷ []) | false ↦ elim (nat_eq number (suc log.last) && nat_le tick max_tick) [ false ↦ publish_now_by see net w p number e | true ↦ stopped (is_kept (log.size - 1) stop.call stop.pick) ] ] in B t.world) → B w
       host_at true b = b
       host_at false b = number_at (nat_eq number (suc log.last) && nat_le tick max_tick) b
 
@@ -324,12 +324,12 @@ module _ (net : Net) (wants : ℕ → ℕ → ℕ → Event → Bool) (see : Vie
       again : (q : Bool) → Runs B (stopped net q) (stopped one q)
       again q = Runs-same B (stopped net q)
 
-      number_at : (q : Bool) → Runs B (elim q [ false ↦ publish_now_by see net w p number e | true ↦ stopped net (is_kept log.gate stop.call stop.pick) ]) (elim q [ false ↦ publish_now one w p number e | true ↦ stopped one (is_kept log.gate stop.call stop.pick) ])
+      number_at : (q : Bool) → Runs B (elim q [ false ↦ publish_now_by see net w p number e | true ↦ stopped net (is_kept (log.size - 1) stop.call stop.pick) ]) (elim q [ false ↦ publish_now one w p number e | true ↦ stopped one (is_kept (log.size - 1) stop.call stop.pick) ])
       number_at false = s.published w p number e f j
-      number_at true = again (is_kept log.gate stop.call stop.pick)
+      number_at true = again (is_kept (log.size - 1) stop.call stop.pick)
 
-      host_at : (q : Bool) → Runs B (elim q [ true ↦ unchanged w (line.RefusedHosts k (net.host p) ∷ []) | false ↦ elim (nat_eq number (suc log.last) && nat_le tick max_tick) [ false ↦ publish_now_by see net w p number e | true ↦ stopped net (is_kept log.gate stop.call stop.pick) ] ])
-          (elim q [ true ↦ unchanged w (line.RefusedHosts k (net.host p) ∷ []) | false ↦ elim (nat_eq number (suc log.last) && nat_le tick max_tick) [ false ↦ publish_now one w p number e | true ↦ stopped one (is_kept log.gate stop.call stop.pick) ] ])
+      host_at : (q : Bool) → Runs B (elim q [ true ↦ unchanged w (line.RefusedHosts k (net.host p) ∷ []) | false ↦ elim (nat_eq number (suc log.last) && nat_le tick max_tick) [ false ↦ publish_now_by see net w p number e | true ↦ stopped net (is_kept (log.size - 1) stop.call stop.pick) ] ])
+          (elim q [ true ↦ unchanged w (line.RefusedHosts k (net.host p) ∷ []) | false ↦ elim (nat_eq number (suc log.last) && nat_le tick max_tick) [ false ↦ publish_now one w p number e | true ↦ stopped one (is_kept (log.size - 1) stop.call stop.pick) ] ])
       host_at true = Runs-same B (unchanged w (line.RefusedHosts k (net.host p) ∷ []))
       host_at false = number_at (nat_eq number (suc log.last) && nat_le tick max_tick)
 
@@ -393,5 +393,5 @@ module _ (net : Net) (wants : ℕ → ℕ → ℕ → Event → Bool) (see : Vie
       ap onward e ∙ ap more (lines_run (next one w l).world ls k.fits i.1 (⊎_elim (λ c. inl (subst (λ (z : Transition). B (run_all_by see net z.world ls).world) e c)) (λ c. inr c) b))
 
   pub report_runs : (ls : List Line) → StepsIn one ls → (B (run_all_by see net (start net) ls).world) ⊎ (B (run_all one (start net) ls).world) → report_of_by see net ls ≡ report_of one ls
-  unfolding report_of_by start started
+  unfolding report_of_by start_by started
   report_runs ls i b = let first : List (List Report) → List (List Report) = λ z. [] ∷ z in ap first (lines_run (start net) ls (start_fits one n) i b)

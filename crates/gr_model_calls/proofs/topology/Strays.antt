@@ -14,7 +14,7 @@ use Rattle.gr_sched.specs.declared.step.Line.{Line}
 use Rattle.gr_event.specs.Joins.{Joins, longer}
 use Rattle.gr_model.specs.Net.{Net, is_host, is_late, all_late}
 use Rattle.gr_model.specs.Broker.{with_joins, taking, view_joined, drops, joining, View, Log, Outcome, head, know_frames, want_frames, up_frames, expect_frame, forward, forward_frames, expect_frames, new_ticks, covers, learn, asking, curiosity, expect, marking, cutting, wake, wake_host, wake_below, receive, clashes, place_of, publish, silence, with_mark}
-use Rattle.gr_model.specs.World.{join_now_by, World, view_of, log_of, absorbed, frame_at, restarted, start, deliver_frame_by, publish_now_by, wake_for_by}
+use Rattle.gr_model.specs.World.{join_now_by, World, view_of, log_of, absorbed, frame_at, restarted, start, start_by, deliver_frame_by, publish_now_by, wake_for_by}
 use Rattle.gr_model_calls.specs.OneNet.{join_now, wake_for, deliver_frame, publish_now, run_all}
 use Rattle.gr_model_calls.specs.Edges.{GoesOverEdge}
 use Rattle.gr_model.specs.Tree.{IsNet}
@@ -203,7 +203,7 @@ over_closed net n = record {
 }
 
 pub start_over : (net : Net) → AllOver net (start net)
-unfolding start
+unfolding start_by
 start_over net = tt
 
 -- no frame of any run is a stray
