@@ -3,6 +3,7 @@ pub mod Records
 pub mod Recorded
 pub mod RecordLines
 pub mod RecordSteps
-pub mod Gates
+pub mod Standings
+pub mod Stored
 pub mod Doubtlines
 pub mod NamedLines

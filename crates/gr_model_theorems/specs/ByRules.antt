@@ -1,7 +1,7 @@
 -- A run of a schedule by the rules of the calls, with no word of how anything is computed: each definition relates a
 -- state to what is left and told from it. Of every schedule these relations allow exactly one report (`runs_by_rules`).
 use Rattle.std.specs.Prelude.{◌≡◌, ℕ, zero, suc, ◌<◌, max, Bool, true, false, ◌&&◌, nat_lt, if◌then◌else◌, List, []}
-use Rattle.std.specs.Prelude.{◌∷◌, ◌++◌, length, map, filter, get_or, set, Some, None, flat_map}
+use Rattle.std.specs.Prelude.{◌∷◌, ◌++◌, ◌-◌, length, map, filter, get_or, set, Some, None, flat_map}
 use Rattle.gr_event.specs.declared.event.Event.{Event}
 use Rattle.gr_frame.specs.declared.Frame.{Frame}
 use Rattle.gr_frame.specs.Bytes.{frame_bytes}
@@ -187,10 +187,10 @@ pub record Crashes (net : Net) (number b : ℕ) (w : World) (t : Transition) : T
 abbrev pub next_tick : World → ℕ → ℕ
 next_tick w p = max (suc (log_of w p).settled) w.clock
 
--- the event of a stopped publish is kept: so say its log's gate, the disk's call that it stops at, and what the disk
--- picks
+-- the event of a stopped publish is kept: so say where its log's text ends, the disk's call that it stops at, and what
+-- the disk picks
 abbrev pub keeps : World → ℕ → Stop → Bool
-keeps w p stop = is_kept (log_of w p).gate stop.call stop.pick
+keeps w p stop = is_kept ((log_of w p).size - 1) stop.call stop.pick
 
 -- the line that says so or not
 abbrev pub fate : World → ℕ → ℕ → Stop → Report

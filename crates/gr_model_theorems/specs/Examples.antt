@@ -20,11 +20,12 @@ use Rattle.gr_model_theorems.specs.Settles.{Call, wakes, delivers, sweep_calls}
 use Rattle.gr_model.specs.Headline.{is_heard}
 use Rattle.gr_model_calls.specs.Fits.{history_of}
 use Rattle.gr_event.specs.Event.{same_bool}
+use Rattle.gr_event.specs.Joins.{Joins}
 use Rattle.gr_know.specs.Values.{Known}
 use Rattle.gr_tick.specs.Runs.{tabulate, points, first_bottom_from}
 use Rattle.gr_model.specs.Blank.{net0}
-use Rattle.gr_model_theorems.specs.SmallNets.{net1, net1_both, net2, net2_forgetful, net3, net4, net5, inner_net}
-use Rattle.gr_model_theorems.specs.SmallNets.{filtered_net, price}
+use Rattle.gr_model_theorems.specs.SmallNets.{net1, net1_both, net1_late, net2, net2_forgetful, net3, net4, net5}
+use Rattle.gr_model_theorems.specs.SmallNets.{inner_net, filtered_net, price, net0_reclaiming}
 
 -- Short words
 
@@ -61,6 +62,13 @@ final first last = run F first last
 
 abbrev pub sent_know : ℕ → ℕ → ℕ → ℕ → Known → Report
 sent_know n from to p runs = line.SentKnow n from to p runs []
+
+-- T is late subscriber 1; a frame that brings its join
+abbrev pub joining : Step
+joining = step.Join 1 0
+
+abbrev pub its_join : ℕ → Joins
+its_join tick = record { subscriber = 1; tick = tick } ∷ []
 
 abbrev pub asked : ℕ → ℕ → Run Q3
 asked first last = run C first last
@@ -293,11 +301,13 @@ pub record WorkedExamples : Type 0 where
       sent_know 1 0 1 0 (silent 1 999 ∷ event (n_is 1) 1000 1000 ∷ []) ∷
       line.Already 0 1 ∷
       line.Gap 0 5 2 ∷ []
-  -- A publish that stops within is kept exactly where the log has its record, whatever image of the disk is left
+  -- A publish that stops within is kept exactly where the log has its record, whatever image of the disk is left. At an
+  -- even place no pick above 1 keeps it, at an odd one there is one
   pub stopped_is_kept_or_lost : (call pick : ℕ) → report net0 (stopped_then_again call pick)
-      ≡ (if is_kept 5 call pick then kept_lines else lost_lines)
-  pub kept_picks : (filter (is_kept 5 1) (numbers 256) ≡ []) × (filter (is_kept 5 2) (numbers 256) ≡ [])
-      × (filter (is_kept 5 3) (numbers 256) ≡ 1 ∷ 205 ∷ []) × (filter (is_kept 5 4) (numbers 256) ≡ 1 ∷ 205 ∷ [])
+      ≡ (if is_kept 32 call pick then kept_lines else lost_lines)
+  pub kept_picks : (filter (is_kept 32 1) (numbers 256) ≡ []) × (filter (is_kept 32 2) (numbers 256) ≡ [])
+      × (filter (is_kept 32 3) (numbers 256) ≡ 1 ∷ []) × (filter (is_kept 32 4) (numbers 256) ≡ 1 ∷ [])
+      × (filter (is_kept 67 3) (numbers 256) ≡ 1 ∷ 107 ∷ [])
   -- What the host says to expect is asked for at once
   pub expected_is_asked : report net0 (clock 1000 ∷ publishing 1 (n_is 1) ∷ waking 0 ∷ deliver 2 ∷ deliver 3 ∷
       deliver 4 ∷ []) ≡
@@ -345,6 +355,97 @@ pub record WorkedExamples : Type 0 where
       line.RefusedFrame 2 9 0 ∷
       line.Crashed 0 ∷
       line.Lost 0 1 1 ∷ []
+  -- A late subscriber gets the events that its filter wants past its join, whichever frame brings the join
+  pub late_gets_what_is_past : report net1_late (clock 1000 ∷ publishing 1 (n_is 5) ∷ deliver 1 ∷ clock 2000 ∷ joining ∷
+      publishing 2 (n_is 6) ∷ deliver 3 ∷ deliver 2 ∷ joining ∷ []) ≡
+      line.Logged 0 1 1000 ∷
+      sent_know 1 0 1 0 (silent 1 999 ∷ event (n_is 5) 1000 1000 ∷ []) ∷
+      line.Got 0 0 1000 (n_is 5) ∷
+      line.Horizon 0 0 1000 ∷
+      line.Horizon 1 0 1000 ∷
+      line.Joined 1 0 2000 ∷
+      line.SentKnow 2 0 1 0 (silent 1001 2000 ∷ []) (its_join 2000) ∷
+      line.Logged 0 2 2001 ∷
+      line.SentKnow 3 0 1 0 (event (n_is 6) 2001 2001 ∷ []) (its_join 2000) ∷
+      line.Got 0 0 2001 (n_is 6) ∷
+      line.Horizon 0 0 2001 ∷
+      line.Got 1 0 2001 (n_is 6) ∷
+      line.Horizon 1 0 2001 ∷
+      line.AlreadyJoined 1 0 ∷ []
+  -- After a crash the host still has the join
+  pub join_outlives_crash : report net1_late (clock 1000 ∷ joining ∷ step.Crash 0 ∷ publishing 1 (n_is 6) ∷ deliver 2 ∷
+      deliver 1 ∷ []) ≡
+      line.Joined 1 0 1000 ∷
+      line.SentKnow 1 0 1 0 (silent 1 1000 ∷ []) (its_join 1000) ∷
+      line.Crashed 0 ∷
+      line.Opened 0 0 1000 0 ∷
+      line.Logged 0 1 1001 ∷
+      line.SentKnow 2 0 1 0 (event (n_is 6) 1001 1001 ∷ []) (its_join 1000) ∷
+      line.Got 0 0 1001 (n_is 6) ∷
+      line.Horizon 0 0 1001 ∷
+      line.Got 1 0 1001 (n_is 6) ∷
+      line.Horizon 1 0 1001 ∷ []
+  -- Where frames from before the join come behind it, a late subscriber gets nothing of theirs
+  pub overtaken_join : report net1_late (clock 1000 ∷ publishing 1 (n_is 5) ∷ clock 2000 ∷ joining ∷
+      publishing 2 (n_is 6) ∷ deliver 3 ∷ deliver 1 ∷ deliver 2 ∷ []) ≡
+      line.Logged 0 1 1000 ∷
+      sent_know 1 0 1 0 (silent 1 999 ∷ event (n_is 5) 1000 1000 ∷ []) ∷
+      line.Joined 1 0 2000 ∷
+      line.SentKnow 2 0 1 0 (silent 1001 2000 ∷ []) (its_join 2000) ∷
+      line.Logged 0 2 2001 ∷
+      line.SentKnow 3 0 1 0 (event (n_is 6) 2001 2001 ∷ []) (its_join 2000) ∷
+      line.Got 0 0 1000 (n_is 5) ∷
+      line.Horizon 0 0 1000 ∷
+      line.Horizon 1 0 1000 ∷
+      line.Got 0 0 2001 (n_is 6) ∷
+      line.Horizon 0 0 2001 ∷
+      line.Got 1 0 2001 (n_is 6) ∷
+      line.Horizon 1 0 2001 ∷ []
+  -- One frame may bring a join, and events from before it and past it
+  pub join_comes_with_events : report net1_late (clock 1000 ∷ publishing 1 (n_is 5) ∷ clock 2000 ∷ joining ∷
+      publishing 2 (n_is 6) ∷ clock 3100 ∷ waking 1 ∷ deliver 4 ∷ deliver 5 ∷ []) ≡
+      line.Logged 0 1 1000 ∷
+      sent_know 1 0 1 0 (silent 1 999 ∷ event (n_is 5) 1000 1000 ∷ []) ∷
+      line.Joined 1 0 2000 ∷
+      line.SentKnow 2 0 1 0 (silent 1001 2000 ∷ []) (its_join 2000) ∷
+      line.Logged 0 2 2001 ∷
+      line.SentKnow 3 0 1 0 (event (n_is 6) 2001 2001 ∷ []) (its_join 2000) ∷
+      line.SentWant 4 1 0 0 (asked 1 2100 ∷ []) ∷
+      line.SentKnow 5 0 1 0
+      (silent 1 999 ∷ event (n_is 5) 1000 1000 ∷ silent 1001 2000 ∷ event (n_is 6) 2001 2001 ∷ []) (its_join 2000) ∷
+      line.Got 0 0 1000 (n_is 5) ∷
+      line.Got 0 0 2001 (n_is 6) ∷
+      line.Horizon 0 0 2001 ∷
+      line.Got 1 0 2001 (n_is 6) ∷
+      line.Horizon 1 0 2001 ∷ []
+  -- A cut writes a log anew whose text has `reclaim` bytes: 33, and 34 of the event
+  pub cut_writes_anew : report net0_reclaiming (clock 1000 ∷ publishing 1 (n_is 1) ∷ deliver 1 ∷ waking 1 ∷ deliver 2 ∷
+      waking 0 ∷ step.Crash 0 ∷ []) ≡
+      line.Logged 0 1 1000 ∷
+      sent_know 1 0 1 0 (silent 1 999 ∷ event (n_is 1) 1000 1000 ∷ []) ∷
+      line.Got 0 0 1000 (n_is 1) ∷
+      line.Horizon 0 0 1000 ∷
+      line.SentWant 2 1 0 0 (acknowledging 1 1000 ∷ []) ∷
+      line.Cut 0 1000 ∷
+      line.Reclaimed 0 2 ∷
+      line.Crashed 0 ∷
+      line.Opened 0 1 1000 1000 ∷ []
+  -- A wake marks, cuts, and writes anew what is past the cut: 33 bytes and those of a mark, so the next cut is a record
+  pub written_anew_with_mark : report net0_reclaiming (clock 1000 ∷ publishing 1 (n_is 1) ∷ deliver 1 ∷ waking 1 ∷
+      deliver 2 ∷ clock 3000 ∷ waking 0 ∷ deliver 3 ∷ waking 1 ∷ deliver 5 ∷ waking 0 ∷ []) ≡
+      line.Logged 0 1 1000 ∷
+      sent_know 1 0 1 0 (silent 1 999 ∷ event (n_is 1) 1000 1000 ∷ []) ∷
+      line.Got 0 0 1000 (n_is 1) ∷
+      line.Horizon 0 0 1000 ∷
+      line.SentWant 2 1 0 0 (acknowledging 1 1000 ∷ []) ∷
+      line.Mark 0 3000 ∷
+      line.Cut 0 1000 ∷
+      line.Reclaimed 0 2 ∷
+      sent_know 3 0 1 0 (silent 1001 3000 ∷ []) ∷
+      line.SentExpect 4 0 1 0 3000 ∷
+      line.Horizon 0 0 3000 ∷
+      line.SentWant 5 1 0 0 (acknowledging 1 3000 ∷ []) ∷
+      line.Cut 0 3000 ∷ []
   -- Equal events at ticks in a row are one run, and are got one by one
   pub equal_events_are_one_run : report net0 (clock 1000 ∷ publishing 1 (n_is 7) ∷ publishing 2 (n_is 7) ∷ clock 2100 ∷
       waking 1 ∷ deliver 3 ∷ deliver 4 ∷ []) ≡

@@ -12,6 +12,7 @@ pub mod ServedExample
 pub mod Found
 pub mod Standing
 pub mod OverLogs
+pub mod Forgets
 pub mod Lanes
 pub mod OrderedServed
 pub mod Joint

@@ -1,11 +1,9 @@
 -- What each list over all publishers says where logs were found: of a schedule that begins on them, and of a server
 use Rattle.std.specs.Prelude.{◌≡◌, ℕ, List, [], ◌∷◌, ◌++◌}
-use Rattle.gr_publog.specs.declared.record.Record.{Record}
 use Rattle.gr_sched.specs.declared.step.Line.{Line}
 use Rattle.gr_model.specs.declared.report.Report.{Report}
 use Rattle.gr_model.specs.Net.{Net, numbers}
 use Rattle.gr_model.specs.Broker.{Log}
-use Rattle.gr_model.specs.World.{Transition}
 use Rattle.gr_model.specs.Opening.{begin_over}
 use Rattle.gr_model.specs.Arrivals.{Arrival, requests_of, left_after, served, Request}
 use Rattle.gr_model_calls.specs.OneNet.{IsOrdered, TotallyOrdered_from}
@@ -14,7 +12,8 @@ use Rattle.gr_model.specs.Orders.{orders_over, ordered_steps}
 use Rattle.gr_model.specs.Ordered.{OneOrder}
 use Rattle.gr_model_theorems.specs.Served.{ArrivalHolds}
 use Rattle.gr_model_theorems.specs.Statements.{started_over, lines_over, over_net}
-use Rattle.gr_model_theorems.specs.Lanes.{whole_logs, found_logs, lanes_net}
+use Rattle.gr_model_theorems.specs.Forgets.{kept_logs}
+use Rattle.gr_model_theorems.specs.Lanes.{lanes_net}
 
 -- Of a report, what is told in one order of these subscribers behind the lines of each step
 abbrev pub told_in_order : Net → List ℕ → List (List Report) → List (List Report)
@@ -23,9 +22,9 @@ told_in_order net totals rs = ordered_steps (orders_over net.publishers totals) 
 -- A schedule over lanes
 
 -- the lines of the opening, and then those of each step
-abbrev pub opened_report : Net → List (List Record) → List Line → List (List Report)
-opened_report net lanes steps =
-    (started_over net (whole_logs lanes)).lines ∷ lines_over net (whole_logs lanes) steps
+abbrev pub opened_report : Net → List Log → List Line → List (List Report)
+opened_report net logs steps =
+    (started_over net logs).lines ∷ lines_over net logs steps
 
 -- each of these subscribers was told exactly what all publishers have up to where it has heard them all, after the
 -- opening and after each step; the record begins with what was found
@@ -34,17 +33,17 @@ TotallyOrderedOver net totals logs steps (r ∷ rs) (o ∷ os) =
     TotallyOrdered_from net totals (begin_over net logs r) o steps rs os
 TotallyOrderedOver net totals logs steps _ _ = ⊥
 
-abbrev pub OrderedOverLanes : Net → List ℕ → List (List Record) → List Line → Type 0
-OrderedOverLanes net totals lanes steps =
-    let rs = opened_report net lanes steps in
-    TotallyOrderedOver (over_net net (found_logs lanes) steps) totals (found_logs lanes) steps rs
+abbrev pub OrderedOverLanes : Net → List ℕ → List Log → List Line → Type 0
+OrderedOverLanes net totals logs steps =
+    let rs = opened_report net logs steps in
+    TotallyOrderedOver (over_net net (kept_logs logs) steps) totals (kept_logs logs) steps rs
     (told_in_order net totals rs)
 
 -- and of two of these subscribers that want the same, at any two steps, one list begins with the other
-abbrev pub OneOrderOverLanes : Net → List ℕ → List (List Record) → List Line → Type 0
-OneOrderOverLanes net totals lanes steps =
-    OneOrder (over_net net (found_logs lanes) steps) totals
-    (told_in_order net totals (opened_report net lanes steps))
+abbrev pub OneOrderOverLanes : Net → List ℕ → List Log → List Line → Type 0
+OneOrderOverLanes net totals logs steps =
+    OneOrder (over_net net (kept_logs logs) steps) totals
+    (told_in_order net totals (opened_report net logs steps))
 
 -- A server over lanes
 
@@ -66,14 +65,14 @@ TotallyOrderedServed net totals logs steps arrivals (r ∷ rs) (o ∷ os) =
     os
 TotallyOrderedServed net totals logs steps arrivals _ _ = ⊥
 
-abbrev pub OrderedServedLanes : Net → List ℕ → List (List Record) → List Line → List Arrival → Type 0
-OrderedServedLanes net totals lanes steps arrivals =
-    let rs = served net (numbers net.brokers) (whole_logs lanes) steps arrivals in
-    TotallyOrderedServed (lanes_net net lanes steps arrivals) totals (found_logs lanes) steps arrivals rs
+abbrev pub OrderedServedLanes : Net → List ℕ → List Log → List Line → List Arrival → Type 0
+OrderedServedLanes net totals logs steps arrivals =
+    let rs = served net (numbers net.brokers) logs steps arrivals in
+    TotallyOrderedServed (lanes_net net logs steps arrivals) totals (kept_logs logs) steps arrivals rs
     (told_in_order net totals rs)
 
 -- and of two of these subscribers that want the same, at any two arrivals, one list begins with the other
-abbrev pub OneOrderServedLanes : Net → List ℕ → List (List Record) → List Line → List Arrival → Type 0
-OneOrderServedLanes net totals lanes steps arrivals =
-    OneOrder (lanes_net net lanes steps arrivals) totals
-    (told_in_order net totals (served net (numbers net.brokers) (whole_logs lanes) steps arrivals))
+abbrev pub OneOrderServedLanes : Net → List ℕ → List Log → List Line → List Arrival → Type 0
+OneOrderServedLanes net totals logs steps arrivals =
+    OneOrder (lanes_net net logs steps arrivals) totals
+    (told_in_order net totals (served net (numbers net.brokers) logs steps arrivals))

@@ -182,8 +182,8 @@ pub record ArrivalTold (net : Net) (h : History) (a : Arrival) (ls : List Report
   pub unreplied : filter is_reply ls ≡ []
   pub numbered : map sent_number (filter is_sent ls) ≡ numbers_from (suc (sent_count h.lines)) (sent_count ls)
 
--- Of one arrival at these brokers, where Rest is to hold of the history after its steps; whom an event concerns is asked
--- of a net that the history shows
+-- Of one arrival at these brokers, where Rest is to hold of the history after its steps; whom an event concerns is
+-- asked of a net that the history shows
 pub record ArrivalHoldsAt_by (at : History → Net) (net : Net) (hosted : List ℕ) (h : History) (left : List Request)
     (a : Arrival) (r : List Report) (Rest : History → Type 0) : Type 0 where
   pub told : ArrivalTold net h a r

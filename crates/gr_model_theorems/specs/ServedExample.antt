@@ -1,5 +1,5 @@
 -- Worked examples of a server: a whole run, and a start over an old log
-use Rattle.std.specs.Prelude.{◌≡◌, ◌-◌, ◌^◌, List, [], ◌∷◌, set, None}
+use Rattle.std.specs.Prelude.{◌≡◌, ◌-◌, ◌^◌, false, List, [], ◌∷◌, set, None}
 use Rattle.gr_frame.specs.declared.Body.TheVariants as body
 use Rattle.gr_frame.specs.declared.Frame.{Frame}
 use Rattle.gr_frame.specs.Bytes.{frame_bytes}
@@ -30,7 +30,16 @@ three_arrivals = quiet 1000 ∷ datagram 1 (frame_bytes first_frame) 1000 ∷ da
 
 -- a log of two events, at ticks 10 and 20, that is cut at 10 and settled up to 30
 unfoldable pub old_log : Log
-old_log = record { last = 2; settled = 30; cut = 10; events = (20, n_is 2) ∷ []; joins = []; gate = 93 }
+old_log = record {
+  last = 2;
+  settled = 30;
+  cut = 10;
+  events = (20, n_is 2) ∷ [];
+  joins = [];
+  generation = 1;
+  size = 121;
+  forgets = false;
+}
 
 -- one broker, with the publisher and a subscriber
 abbrev pub one_broker : Net

@@ -4,6 +4,7 @@ use Rattle.std.specs.Prelude.{filter, if◌then◌else◌, int_lt, bytes_eq, pos
 use Rattle.gr_event.specs.declared.value.Value.TheVariants as value
 use Rattle.gr_event.specs.declared.event.Event.{Event}
 use Rattle.gr_model.specs.Net.{Net, numbers}
+use Rattle.gr_model.specs.Blank.{net0}
 
 -- A tree, given for each broker the next one towards broker 0
 
@@ -43,6 +44,7 @@ tree next ats wants cache =
       retry = 500;
       quiet = 1000;
       cache = cache;
+      reclaim = 65536;
     }
 
 -- Filters
@@ -64,7 +66,22 @@ not_over_80 [] = false
 not_over_80 (p ∷ ps) = (bytes_eq p.0 price && elim p.1 [ value.Int v ↦ not (int_lt (pos 80) v) | _ ↦ false ])
     || not_over_80 ps
 
+-- n > 1
+abbrev pub over_1 : Event → Bool
+over_1 [] = false
+over_1 (p ∷ ps) = (bytes_eq p.0 (110 ∷ []) && elim p.1 [ value.Int v ↦ int_lt (pos 1) v | _ ↦ false ]) || over_1 ps
+
 -- Topologies
+
+-- net 0 where a cut writes a log anew whose text has 64 bytes or more
+abbrev pub net0_reclaiming : Net
+net0_reclaiming = record net0 { reclaim = 64 }
+
+-- A and B, S and T at B, of which T is late and has the filter n > 1
+abbrev pub net1_late : Net
+net1_late = record (tree (None ∷ Some 0 ∷ []) (1 ∷ 1 ∷ []) (λ s e. if nat_eq s 0 then true else over_1 e) 1024) {
+  late = 1 ∷ [];
+}
 
 -- A and B, and S at B with the filter price > 80
 abbrev pub net1 : Net

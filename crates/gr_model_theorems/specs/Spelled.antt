@@ -1,10 +1,9 @@
 -- What a schedule may name, and what holds of a world in which every tick and event is within the limits of frames
-use Rattle.std.specs.Prelude.{◌≡◌, ℕ, suc, ◌≤◌, ◌<◌, ◌^◌, true, List, [], ◌∷◌, length}
+use Rattle.std.specs.Prelude.{◌≡◌, ℕ, suc, ◌≤◌, ◌<◌, ◌^◌, true, List, length}
 use Rattle.std.specs.List.{AllByRecursion}
 use Rattle.gr_event.specs.Limits.{IsEvent}
 use Rattle.gr_event.specs.declared.limits.TheConstants.{MAX_JOINS}
-use Rattle.gr_event.specs.Joins.{Joins, AreJoins}
-use Rattle.gr_publog.specs.State.{Standing, HasRoom}
+use Rattle.gr_publog.specs.State.{AreHeld}
 use Rattle.gr_tick.specs.declared.run.Run.{Run}
 use Rattle.gr_curio.specs.declared.asks.Moment.{Moment}
 use Rattle.gr_frame.specs.declared.Frame.{Frame}
@@ -51,21 +50,12 @@ pub record ViewIn (v : View) : Type 0 where
   pub horizon : v.horizon ≤ max_tick
   pub joins : length v.joins ≤ MAX_JOINS
 
--- where a log stands, if these subscribers may join
-abbrev pub standing_in : List ℕ → Log → Standing
-standing_in late log = record {
-  state = record { last = log.last; settled = log.settled; cut = log.cut };
-  joins = log.joins;
-  late = late;
-}
-
 -- a publisher's log, where these subscribers may join: there is room for each that has not
 pub record LogIn (late : List ℕ) (log : Log) : Type 0 where
   pub settled : log.settled ≤ max_tick
   pub cut : log.cut ≤ max_tick
   pub events : AllByRecursion (λ x. (x.0 ≤ max_tick) × IsEvent x.1) log.events
-  pub joins : AreJoins log.joins
-  pub room : HasRoom (standing_in late log)
+  pub held : AreHeld late log.joins log.settled
 
 -- the clock, and all that is kept and sent, where these subscribers may join
 pub record WorldIn (late : List ℕ) (w : World) : Type 0 where

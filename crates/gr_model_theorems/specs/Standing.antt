@@ -9,19 +9,19 @@ use Rattle.gr_curio.specs.Values.{asked_at}
 use Rattle.gr_model.specs.Net.{Net, keeps_horizon, is_host}
 use Rattle.gr_model.specs.Broker.{View, event_at, is_consolidated_by}
 use Rattle.gr_model.specs.World.{World, view_of, log_of, sent_lines}
-use Rattle.gr_model.specs.Opening.{recorded_of}
-use Rattle.gr_model.specs.Headline.{History, record_of, reopened_cut, gate_of, last_cut, last_horizon, delivered_events}
-use Rattle.gr_model.specs.Headline.{expected, is_heard, is_sent, may_crash, InOrder}
+use Rattle.gr_model.specs.Opening.{recorded_of, stored_now}
+use Rattle.gr_model.specs.Headline.{History, record_of, reopened_cut, stored_of, last_cut, last_horizon}
+use Rattle.gr_model.specs.Headline.{delivered_events, expected, is_heard, is_sent, may_crash, InOrder}
 use Rattle.gr_model_calls.specs.Fits.{WorldFits}
 
--- The log of p is its record, with its marks and its cuts
+-- The log of p is its record, with its marks and its cuts, and is stored as these say
 pub record IsRecorded (net : Net) (h : History) (w : World) (p : ℕ) : Type 0 where
   -- the last number, the tick up to which all is settled, and the events
   pub record_is : recorded_of (log_of w p) ≡ record_of h p
   -- the cut is that of the last cut line, or the one that was found
   pub cut : (log_of w p).cut ≡ last_cut p (reopened_cut h p) h.lines
-  -- the gate stands behind all that was logged, marked and cut
-  pub gate : (log_of w p).gate ≡ gate_of h p
+  -- its lane has the generation, and its text the size, that all that was logged, marked and cut gives
+  pub stored : stored_now (log_of w p) ≡ stored_of h p
 
 -- Subscriber s got exactly what p owes it up to the horizon of its broker, and was told that horizon
 pub record HasGot (net : Net) (h : History) (w : World) (s p : ℕ) : Type 0 where

@@ -20,7 +20,8 @@ use Rattle.gr_model_calls.specs.OneNet.{last_net}
 use Rattle.gr_model_calls.specs.OneNet as one
 use Rattle.gr_model.specs.Opening.{opening, publishers_at, begin_over}
 use Rattle.gr_model.specs.Arrivals.{served, arrived, Arrival, requests_of, clash_runs, first_of}
-use Rattle.gr_model.specs.Headline.{History, record_of, delivered_events, last_horizon, GetsExactly, Holds_from, recorded_net, is_doubt_line, doubt_place, doubts_shown}
+use Rattle.gr_model.specs.Headline.{History, record_of, delivered_events, last_horizon, GetsExactly, Holds_from}
+use Rattle.gr_model.specs.Headline.{recorded_net, is_doubt_line, doubt_place, doubts_shown}
 use Rattle.gr_model_calls.specs.Said.{due_between}
 use Rattle.gr_model_calls.specs.Fits.{StepsIn}
 use Rattle.gr_model_theorems.specs.Order.{CutsInOrder}

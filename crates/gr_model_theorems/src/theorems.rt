@@ -32,9 +32,9 @@ ghost use Rattle.gr_model_theorems.specs.ByRules.{ScheduleByRules};
 ghost use Rattle.gr_model_theorems.specs.Settles.{SweepSettles, AllGot};
 ghost use Rattle.gr_model_theorems.specs.Standing.{Fits};
 ghost use Rattle.gr_model_theorems.specs.OverLogs.{StandsOver};
-ghost use Rattle.gr_publog.specs.declared.record.Record.{Record};
-ghost use Rattle.gr_model_theorems.specs.Lanes.{AllFollow, IsRunOverLanes, IsServedOverLanes, found_logs};
-ghost use Rattle.gr_model_theorems.specs.Lanes.{FoundIsPastCut, HoldsOverLanes, HoldsServedLanes, CutEventsSilent};
+ghost use Rattle.gr_model_theorems.specs.Forgets.{CutsStaySame, StepsTellTheSame, ForgetTheSame, OpenedTheSame};
+ghost use Rattle.gr_model_theorems.specs.Forgets.{AllOpened, kept_logs};
+ghost use Rattle.gr_model_theorems.specs.Lanes.{IsRunOverLanes, IsServedOverLanes, HoldsOverLanes, HoldsServedLanes};
 ghost use Rattle.gr_model_theorems.specs.OrderedServed.{OrderedOverLanes, OneOrderOverLanes};
 ghost use Rattle.gr_model_theorems.specs.OrderedServed.{OrderedServedLanes, OneOrderServedLanes};
 ghost use Rattle.gr_model_theorems.specs.Joint.{IsJointRun, HoldsJoint, AllDoStepsJoint, joint_reports, lefts_at_start};
@@ -242,19 +242,26 @@ pub fn headline_served()
         IsServedRun net logs steps arrivals → ArrivalsDoSteps net logs steps arrivals }
 {}
 
-/// The headline over logs that code opens: each lane has records that may follow one another, and its log all their
-/// events. The record begins with what is found, the events past the cut, of schedules and of a server over an honest
-/// journal. So what was cut changes nothing: no line, and no world but for the events themselves.
+/// Logs that forget: where each cut drops the events that it lets go, the same lines are told as where logs keep all
+/// events, and the same world is left but for these events. So it is of every schedule from the start, and of all that
+/// comes to some brokers over logs that were opened. Logs that were opened, and keep their events from then on, are old
+/// logs, of which the theorems speak.
+pub fn forgets_the_same()
+    ensures started { (net : Net) (steps : List Line) → ForgetTheSame net steps }
+    ensures opened { (net : Net) (hosted : List ℕ) (logs : List Log) → OpenedTheSame net hosted logs }
+    ensures steps { StepsTellTheSame }
+    ensures cuts { CutsStaySame }
+    ensures found { (net : Net) (logs : List Log) → length net.late ≤ MAX_JOINS → AllOpened net.late logs →
+        AreReopened net (kept_logs logs) }
+{}
+
+/// The headline over logs that code opens, which forget: of schedules that begin on them, and of a server over an
+/// honest journal. The record begins with what the logs had when they were opened, the events past the cut.
 pub fn headline_over_lanes()
-    ensures schedules { (net : Net) (lanes : List (List Record)) (steps : List Line) →
-        IsRunOverLanes net lanes steps → HoldsOverLanes net lanes steps }
-    ensures served { (net : Net) (lanes : List (List Record)) (steps : List Line) (arrivals : List Arrival) →
-        IsServedOverLanes net lanes steps arrivals → HoldsServedLanes net lanes steps arrivals }
-    ensures found { (net : Net) (lanes : List (List Record)) → length net.late ≤ MAX_JOINS →
-        AllFollow net.late lanes → AreReopened net (found_logs lanes) }
-    ensures past { FoundIsPastCut }
-    ensures silent { (net : Net) (late : List ℕ) (lanes : List (List Record)) →
-        AllFollow late lanes → CutEventsSilent net lanes }
+    ensures schedules { (net : Net) (logs : List Log) (steps : List Line) →
+        IsRunOverLanes net logs steps → HoldsOverLanes net logs steps }
+    ensures served { (net : Net) (logs : List Log) (steps : List Line) (arrivals : List Arrival) →
+        IsServedOverLanes net logs steps arrivals → HoldsServedLanes net logs steps arrivals }
 {}
 
 /// One order over all publishers, over logs that code opens: of every schedule that begins on them, and of a server of
@@ -263,23 +270,23 @@ pub fn headline_over_lanes()
 /// publishers: each once, rising by tick and then publisher. The record begins with what was found, the events past the
 /// cut: what an earlier run cut is in no list of this one.
 pub fn ordered_over_lanes()
-    ensures schedules { (net : Net) (totals : List ℕ) (lanes : List (List Record)) (steps : List Line) →
-        IsRunOverLanes net lanes steps → AreTotals net totals → OrderedOverLanes net totals lanes steps }
-    ensures served { (net : Net) (totals : List ℕ) (lanes : List (List Record)) (steps : List Line)
-        (arrivals : List Arrival) → IsServedOverLanes net lanes steps arrivals → AreTotals net totals →
-        OrderedServedLanes net totals lanes steps arrivals }
+    ensures schedules { (net : Net) (totals : List ℕ) (logs : List Log) (steps : List Line) →
+        IsRunOverLanes net logs steps → AreTotals net totals → OrderedOverLanes net totals logs steps }
+    ensures served { (net : Net) (totals : List ℕ) (logs : List Log) (steps : List Line)
+        (arrivals : List Arrival) → IsServedOverLanes net logs steps arrivals → AreTotals net totals →
+        OrderedServedLanes net totals logs steps arrivals }
 {}
 
 /// One order among subscribers, over logs that code opens: of two subscribers that get one list over all publishers and
 /// want the same, what one was told in it up to any step or arrival begins with what the other was told up to any, or
 /// the other way round.
 pub fn one_order_over_lanes()
-    ensures schedules { (net : Net) (totals : List ℕ) (lanes : List (List Record)) (steps : List Line) →
-        IsRunOverLanes net lanes steps → AreTotals net totals →
-        OneOrderOverLanes net totals lanes steps }
-    ensures served { (net : Net) (totals : List ℕ) (lanes : List (List Record)) (steps : List Line)
-        (arrivals : List Arrival) → IsServedOverLanes net lanes steps arrivals → AreTotals net totals →
-        OneOrderServedLanes net totals lanes steps arrivals }
+    ensures schedules { (net : Net) (totals : List ℕ) (logs : List Log) (steps : List Line) →
+        IsRunOverLanes net logs steps → AreTotals net totals →
+        OneOrderOverLanes net totals logs steps }
+    ensures served { (net : Net) (totals : List ℕ) (logs : List Log) (steps : List Line)
+        (arrivals : List Arrival) → IsServedOverLanes net logs steps arrivals → AreTotals net totals →
+        OneOrderServedLanes net totals logs steps arrivals }
 {}
 
 /// The headline of processes that run side by side, each with some of the brokers and none with the logs of an earlier

@@ -1,7 +1,7 @@
 -- Each call cuts at most the log of its own publisher, with one cut line, since only the wake of a host cuts
 use Rattle.std.proofs.Common.{◌≡◌, ◌≢◌, ◌⊎◌, inl, inr, ℕ, suc, ◌<◌, max, Bool, true, false, List, [], ◌∷◌, ◌++◌, map, refl, sym, ap, ◌∙◌, subst, append-nil, append_assoc}
 use Rattle.std.specs.Prelude.{nat_eq, nat_lt, if◌then◌else◌, flat_map, filter, IsTrue}
-use Rattle.std.proofs.lemmas.Bool.{both_ways, ltb-true, eq-eqb, ne_eqb}
+use Rattle.std.proofs.lemmas.Bool.{both_ways, lt-ltb, ltb-true, eq-eqb, ne_eqb}
 use Rattle.gr_event.specs.Joins.{Joins, longer}
 use Rattle.gr_event.specs.declared.event.Event.{Event}
 use Rattle.gr_frame.specs.declared.Body.{Body}
@@ -11,13 +11,14 @@ use Rattle.gr_model.specs.declared.report.Report.{Report}
 use Rattle.gr_model.specs.declared.report.Report.TheVariants as line
 use Rattle.gr_know.specs.Values.{Known}
 use Rattle.gr_pubend.specs.declared.answers.Joined.TheVariants as joins
-use Rattle.gr_model.specs.Net.{Net, is_host, keeps_horizon}
-use Rattle.gr_model.specs.Broker.{joining, joining_by, with_join, with_joins, drops, View, Log, Outcome, delivery_lines, got_line, learn, publish, marking, cutting, wake, wake_host, wake_below, asking, curiosity, expect, receive, clashes, place_of, silence, with_event, with_mark, with_cut, done_upto, consolidated, publish_by}
+use Rattle.gr_model.specs.Net.{Net, is_host}
+use Rattle.gr_model.specs.Broker.{joining, joining_by, with_join, with_joins, drops, View, Log, Outcome, delivery_lines, got_line, learn, publish, marking, cutting, wake, wake_host, wake_below, asking, curiosity, expect, receive, place_of, silence, with_event, with_mark, publish_by}
 use Rattle.gr_model.specs.World.{sent_line, sent_lines}
 use Rattle.gr_model.specs.Headline.{last_cut}
 use Rattle.gr_pubend.specs.declared.answers.Published.TheVariants.{Logged}
 use Rattle.gr_model_calls.proofs.calls.HostCases.{joining_cases, publish_cases, marking_cases, news_of}
-use Rattle.gr_model_calls.proofs.calls.Calls.{cutting_same, learn_log}
+use Rattle.gr_model_calls.proofs.calls.Calls.{marking_forgets, learn_log}
+use Rattle.gr_model_calls.proofs.calls.Cutting.{at_cut, cut_at, cutting_cases, cutting_events}
 use Rattle.gr_model_theorems.proofs.records.Records.{receive_log}
 
 -- each cut line of p, with the lines before it
@@ -186,19 +187,14 @@ marking_keeps net p b now v log =
     (λ e. record { cut = refl; events = refl; free = λ q. tt })
 
 cutting_stays : (net : Net) (p b : ℕ) (v : View) (log : Log) → nat_lt log.cut (cutting net p b v log).cut ≡ false → (cutting net p b v log).cut ≡ log.cut
-unfolding cutting
-cutting_stays net p b v log = go (nat_lt log.cut a) refl
-  where
-    a : ℕ
-    a = done_upto (consolidated (keeps_horizon net p b) v.horizon v.wants) log.settled
+cutting_stays net p b v log =
+    let a = cut_at net p b v log in
+    cutting_cases net p b v log (λ l. nat_lt log.cut l.cut ≡ false → l.cut ≡ log.cut) (λ f. refl)
+    (λ x. subst (λ c. nat_lt log.cut c ≡ false → c ≡ log.cut) (sym (at_cut net.reclaim log a)) (λ f. absurd (both_ways (nat_lt log.cut a) f (lt-ltb log.cut a x))))
 
-    go : (q : Bool) → nat_lt log.cut a ≡ q → (let l : Log = if q then with_cut log a else log in nat_lt log.cut l.cut ≡ false → l.cut ≡ log.cut)
-    go true e f = absurd (both_ways (nat_lt log.cut a) f e)
-    go false e f = refl
-
-wake_host_cuts : (net : Net) (p b now : ℕ) (v : View) (log : Log) → is_host net p b ≡ true → CallCuts net p b log (wake_host net p b now v log)
+wake_host_cuts : (net : Net) (p b now : ℕ) (v : View) (log : Log) → log.forgets ≡ false → is_host net p b ≡ true → CallCuts net p b log (wake_host net p b now v log)
 unfolding wake_host
-wake_host_cuts net p b now v log host = go (nat_lt o.log.cut new.cut) refl (nat_lt log.settled o.log.settled)
+wake_host_cuts net p b now v log keeps host = go (nat_lt o.log.cut new.cut) refl (nat_lt log.settled o.log.settled) (nat_lt o.log.generation new.generation)
   where
     o : Outcome
     o = marking net p b now v log
@@ -219,27 +215,34 @@ wake_host_cuts net p b now v log host = go (nat_lt o.log.cut new.cut) refl (nat_
     fs : List Frame
     fs = (wake_host net p b now v log).frames
 
-    go : (q : Bool) → nat_lt o.log.cut new.cut ≡ q → (c : Bool) → CallCuts net p b log (record { view = o.view; log = new; lines = (mark c ++ (if q then line.Cut p new.cut ∷ [] else [])) ++ o.lines; frames = fs })
-    go true e c = record {
-      others = λ q n. CutFree-append q (mark c ++ line.Cut p new.cut ∷ []) o.lines (CutFree-append q (mark c) (line.Cut p new.cut ∷ []) (mark_free q c) (ne_eqb p q (λ x. n (sym x)), tt)) (k.free q);
+    anew : Bool → List Report
+    anew d = if d then line.Reclaimed p new.generation ∷ [] else []
+
+    anew_free : (q : ℕ) (d : Bool) → CutFree q (anew d)
+    anew_free q true = tt
+    anew_free q false = tt
+
+    go : (q : Bool) → nat_lt o.log.cut new.cut ≡ q → (c d : Bool) → CallCuts net p b log (record { view = o.view; log = new; lines = (mark c ++ (if q then line.Cut p new.cut ∷ anew d else [])) ++ o.lines; frames = fs })
+    go true e c d = record {
+      others = λ q n. CutFree-append q (mark c ++ line.Cut p new.cut ∷ anew d) o.lines (CutFree-append q (mark c) (line.Cut p new.cut ∷ anew d) (mark_free q c) (ne_eqb p q (λ x. n (sym x)), anew_free q d)) (k.free q);
       here = inr (record {
         host = host;
         more = subst (λ z. z < new.cut) k.cut (ltb-true o.log.cut new.cut e);
-        events = (cutting_same net p b o.view o.log).events ∙ k.events;
+        events = cutting_events net p b o.view o.log (marking_forgets net p b now v log ∙ keeps) ∙ k.events;
         pre = mark c;
-        post = o.lines;
+        post = anew d ++ o.lines;
         free_pre = mark_free p c;
-        free_post = k.free p;
-        lines = append_assoc (mark c) (line.Cut p new.cut ∷ []) o.lines;
+        free_post = CutFree-append p (anew d) o.lines (anew_free p d) (k.free p);
+        lines = append_assoc (mark c) (line.Cut p new.cut ∷ anew d) o.lines;
       });
     }
-    go false e c = uncut net p b log (record { view = o.view; log = new; lines = (mark c ++ []) ++ o.lines; frames = fs }) (λ q. CutFree-append q (mark c ++ []) o.lines (CutFree-append q (mark c) [] (mark_free q c) tt) (k.free q)) (cutting_stays net p b o.view o.log e ∙ k.cut)
+    go false e c d = uncut net p b log (record { view = o.view; log = new; lines = (mark c ++ []) ++ o.lines; frames = fs }) (λ q. CutFree-append q (mark c ++ []) o.lines (CutFree-append q (mark c) [] (mark_free q c) tt) (k.free q)) (cutting_stays net p b o.view o.log e ∙ k.cut)
 
 -- a wake cuts at most the log of its publisher, with one line
-pub wake_cuts : (net : Net) (p b now : ℕ) (v : View) (log : Log) → CallCuts net p b log (wake net p b now v log)
+pub wake_cuts : (net : Net) (p b now : ℕ) (v : View) (log : Log) → log.forgets ≡ false → CallCuts net p b log (wake net p b now v log)
 unfolding wake wake_below asking
-wake_cuts net p b now v log = go (is_host net p b) refl
+wake_cuts net p b now v log keeps = go (is_host net p b) refl
   where
     go : (q : Bool) → is_host net p b ≡ q → CallCuts net p b log (elim q [ true ↦ wake_host net p b now v log | false ↦ wake_below net p b now v log ])
-    go true e = wake_host_cuts net p b now v log e
+    go true e = wake_host_cuts net p b now v log keeps e
     go false e = uncut net p b log (wake_below net p b now v log) (λ q. tt) refl

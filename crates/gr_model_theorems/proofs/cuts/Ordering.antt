@@ -1,5 +1,5 @@
 -- Cut lines are in order over every schedule
-use Rattle.std.proofs.Common.{◌≡◌, ◌≢◌, inl, inr, ℕ, suc, ◌<◌, max, Bool, true, false, ◌&&◌, List, [], ◌∷◌, ◌++◌, map, length, set, refl, sym, ap, ◌∙◌, subst, Option, Some, None, arith, le_refl, append_assoc}
+use Rattle.std.proofs.Common.{◌≡◌, ◌≢◌, inl, inr, ℕ, suc, ◌<◌, max, Bool, true, false, ◌&&◌, List, [], ◌∷◌, ◌-◌, ◌++◌, map, length, set, refl, sym, ap, ◌∙◌, subst, Option, Some, None, arith, le_refl, append_assoc}
 use Rattle.std.specs.Prelude.{nat_eq, nat_le, nat_lt, if◌then◌else◌, flat_map, get_or}
 use Rattle.std.proofs.lemmas.Bool.{cases_eq, both_ways}
 use Rattle.std.proofs.lemmas.List.{get_or-set_other, get_or-set_same}
@@ -39,7 +39,7 @@ orders_after net w t f k a b found ls l o = subst (λ z. Ordered net found (f t.
 
 wake_for_orders : (net : Net) (w : World) (b p : ℕ) → IsNet net → WorldFits net w → b < net.brokers → p < net.publishers → Kept net w (wake_for net w b p) → ((m : HostsMeet net w) → HostsMeet net (wake_for net w b p).world) → Orders net w (wake_for net w b p)
 unfolding wake_for_by
-wake_for_orders net w b p n f i j k m found ls l o = absorbed_ordered net found w b p (wake net p b w.clock (view_of w b p) (log_of w p)) ls n f i j (wake_cuts net p b w.clock (view_of w b p) (log_of w p)) k (m o.meets) l o
+wake_for_orders net w b p n f i j k m found ls l o = absorbed_ordered net found w b p (wake net p b w.clock (view_of w b p) (log_of w p)) ls n f i j (wake_cuts net p b w.clock (view_of w b p) (log_of w p) (f.logs p j).keeps) k (m o.meets) l o
 
 deliver_orders : (net : Net) (w : World) (x : Frame) → IsNet net → WorldFits net w → FrameTrue net w x → Kept net w (deliver_frame net w x) → ((m : HostsMeet net w) → HostsMeet net (deliver_frame net w x).world) → Orders net w (deliver_frame net w x)
 unfolding deliver_frame_by
@@ -117,7 +117,7 @@ stopped_orders net w k p number stop e n f j = host_at (not_empty (net.subscribe
     tick = max (suc log.settled) w.clock
 
     kept : Bool
-    kept = is_kept log.gate stop.call stop.pick
+    kept = is_kept (log.size - 1) stop.call stop.pick
 
     told : Bool → Transition
     told q =

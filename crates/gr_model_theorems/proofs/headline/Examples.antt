@@ -19,7 +19,7 @@ use Rattle.gr_model_theorems.specs.Examples.{branch_crashes, calls_after, heard_
 
 -- with this one open the whole machine computes
 unfoldable machine : Net → List Step → List Report
-unfolding report world.report_of_by world.run_from_by world.next_by world.start frames.frame_bytes world.show world.sweep_by world.sweep_for_by world.hand_down_by world.wake_up_by world.deliver_up_by world.sweep_moment world.publish_stopped_by world.crash world.restarted world.opened_lines world.publish_now_by world.deliver_frame_by world.wake_all_by world.wake_for_by world.absorbed world.sent_line broker.receive broker.drops broker.clashes broker.started broker.wake broker.wake_host broker.marking broker.quieted broker.cutting broker.done_upto broker.publish broker.published broker.silence broker.log_know broker.expect broker.wake_below broker.asking broker.curiosity broker.stored broker.answers broker.acknowledged broker.upward broker.noted broker.due broker.learn broker.still_wanted broker.passed broker.forward broker.new_ticks broker.delivery_lines broker.data_ticks broker.horizon_after broker.kept_view broker.open_asks broker.forgotten broker.lower_data broker.finished broker.consolidated frames.cut_frames frames.cut_from
+unfolding report world.report_of_by world.run_from_by world.next_by world.start_by frames.frame_bytes world.show world.sweep_by world.sweep_for_by world.hand_down_by world.wake_up_by world.deliver_up_by world.sweep_moment world.publish_stopped_by world.crash world.restarted world.opened_lines world.publish_now_by world.join_now_by world.deliver_frame_by world.wake_all_by world.wake_for_by world.absorbed world.sent_line broker.receive broker.drops broker.clashes broker.started broker.wake broker.wake_host broker.marking broker.quieted broker.cutting broker.size_filled broker.done_upto broker.publish broker.published broker.joining broker.joined_at broker.silence broker.log_know broker.expect broker.wake_below broker.asking broker.curiosity broker.stored broker.answers broker.acknowledged broker.upward broker.noted broker.due broker.learn broker.still_wanted broker.passed broker.forward broker.new_ticks broker.delivery_lines broker.data_ticks broker.horizon_after broker.kept_view broker.open_asks broker.forgotten broker.lower_data broker.finished broker.consolidated frames.cut_frames frames.cut_from
 machine net steps = report net steps
 
 -- Example of the stopped publish: the step with the answer of the disk as a parameter
@@ -41,7 +41,7 @@ stopped_as kept =
 unfoldable report_as : Bool → List Report
 report_as kept = let s = stopped_as kept in s.lines ++ ((world.next net0 s.world (record { number = 3; step = publishing 1 (n_is 1) })).lines ++ [])
 
-report_is : (call pick : ℕ) → report net0 (stopped_then_again call pick) ≡ report_as (is_kept 5 call pick)
+report_is : (call pick : ℕ) → report net0 (stopped_then_again call pick) ≡ report_as (is_kept 32 call pick)
 unfolding machine stopped_then_again report_as stopped_as clocked_world
 report_is call pick = refl
 
@@ -81,12 +81,18 @@ examples = record {
   cut_when_all_have_acknowledged = refl;
   sweep_settles = refl;
   numbers_stand_once = refl;
-  stopped_is_kept_or_lost = λ call pick. report_is call pick ∙ report_tells (is_kept 5 call pick);
-  kept_picks = (refl, refl, refl, refl);
+  stopped_is_kept_or_lost = λ call pick. report_is call pick ∙ report_tells (is_kept 32 call pick);
+  kept_picks = (refl, refl, refl, refl, refl);
   expected_is_asked = refl;
   forgotten_is_asked_on = refl;
   last_tick = refl;
   refusals = refl;
+  late_gets_what_is_past = refl;
+  join_outlives_crash = refl;
+  overtaken_join = refl;
+  join_comes_with_events = refl;
+  cut_writes_anew = refl;
+  written_anew_with_mark = refl;
   equal_events_are_one_run = refl;
   sweep_after_losses = refl;
   sweep_after_crashes = refl;

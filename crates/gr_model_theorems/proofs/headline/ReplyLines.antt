@@ -1,5 +1,5 @@
 -- Refused and bytes lines stand exactly where the steps and the frames sent demand, since no call of a broker tells one; and frames are numbered on
-use Rattle.std.proofs.Common.{◌≡◌, inl, inr, ℕ, suc, ◌≤◌, max, Bool, true, false, ◌&&◌, List, [], ◌∷◌, ◌++◌, map, length, set, refl, sym, ap, ap₂, ◌∙◌, Option, Some, None}
+use Rattle.std.proofs.Common.{◌≡◌, inl, inr, ℕ, suc, ◌-◌, ◌≤◌, max, Bool, true, false, ◌&&◌, List, [], ◌∷◌, ◌++◌, map, length, set, refl, sym, ap, ap₂, ◌∙◌, Option, Some, None}
 use Rattle.std.specs.Prelude.{nat_eq, nat_le, nat_lt, if◌then◌else◌, flat_map, filter, get_or, not}
 use Rattle.std.proofs.lemmas.List.Elements.{filter-append}
 use Rattle.std.proofs.lemmas.Bool.{cases_Bool, lt-leb, le-leb, ltb-true, ltb-false}
@@ -17,7 +17,7 @@ use Rattle.gr_model.specs.declared.report.Report.TheVariants as line
 use Rattle.gr_model.specs.Net.{Net, is_host, keeps_horizon, numbers, numbers_from, not_empty}
 use Rattle.gr_model.specs.Broker.{joining, View, Log, Outcome, empty_log, is_kept, marking, cutting, wake, wake_host, wake_below, asking, publish, receive, with_event, max_tick}
 use Rattle.gr_model.specs.World.{join_now_by, World, Transition, view_of, log_of, absorbed, unchanged, in_turn, sent_line, sent_lines, frame_at, restarted, crash, sweep_moment, show, start, opened_lines, kept_events, deliver_frame_by, next_by, publish_now_by, publish_stopped_by, report_of_by, run_from_by, sweep_by, wake_for_by}
-use Rattle.gr_model_calls.specs.OneNet.{join_now, wake_for, wake_all, deliver_frame, publish_now, publish_stopped, sweep_for, sweep, next, run_from, report_of}
+use Rattle.gr_model_calls.specs.OneNet.{join_now, wake_for, deliver_frame, publish_now, publish_stopped, sweep_for, sweep, next, run_from, report_of}
 use Rattle.gr_model.specs.World as world
 use Rattle.gr_model.specs.Headline.{join_line, Recorded, History, begin, history_after, publish_line, may_crash, sent_number, sent_count}
 use Rattle.gr_model_theorems.specs.Replies.{is_reply, frame_of_line, shown_bytes, replies, StepReplied, Replied_from, Replied}
@@ -66,17 +66,20 @@ wake_silent net p b now v log = go (is_host net p b)
     new : Log
     new = cutting net p b o.view o.log
 
-    two : (c d : Bool) → replying (host_lines p now new.cut c d) ≡ []
-    two true true = refl
-    two true false = refl
-    two false true = refl
-    two false false = refl
+    two : (c d e : Bool) → replying (host_lines p now new.cut new.generation c d e) ≡ []
+    two true true true = refl
+    two true true false = refl
+    two true false e = refl
+    two false true true = refl
+    two false true false = refl
+    two false false e = refl
 
     go : (q : Bool) → replying (let u : Outcome = elim q [ true ↦ wake_host net p b now v log | false ↦ wake_below net p b now v log ] in u.lines) ≡ []
     go true =
         let c = nat_lt log.settled o.log.settled in
         let d = nat_lt o.log.cut new.cut in
-        filter-append is_reply (host_lines p now new.cut c d) o.lines ∙ ap₂ (λ x y. x ++ y) (two c d) (marking_none is_reply net p b now v log replies_skip)
+        let e = nat_lt o.log.generation new.generation in
+        filter-append is_reply (host_lines p now new.cut new.generation c d e) o.lines ∙ ap₂ (λ x y. x ++ y) (two c d e) (marking_none is_reply net p b now v log replies_skip)
     go false = refl
 
 wake_for_silent : (net : Net) (w : World) (b p : ℕ) → replying (wake_for net w b p).lines ≡ []
@@ -151,7 +154,7 @@ crash_silent net w b = opened_silent net w.logs b
 
 stopped_replies : (net : Net) (w : World) (k p number : ℕ) (stop : Stop) (e : Event) → replying (publish_stopped net w k p number stop e).lines ≡ (if may_crash net (net.host p) then [] else line.RefusedHosts k (net.host p) ∷ [])
 unfolding publish_stopped_by
-stopped_replies net w k p number stop e = go (not_empty (net.subscribers_at (net.host p))) (nat_eq number (suc log.last) && nat_le tick max_tick) (is_kept log.gate stop.call stop.pick)
+stopped_replies net w k p number stop e = go (not_empty (net.subscribers_at (net.host p))) (nat_eq number (suc log.last) && nat_le tick max_tick) (is_kept (log.size - 1) stop.call stop.pick)
   where
     log : Log
     log = log_of w p

@@ -9,7 +9,7 @@ use Rattle.gr_model.specs.declared.report.Report.TheVariants as line
 use Rattle.gr_model.specs.Net.{Net, keeps_horizon, is_empty, not_empty, numbers, numbers_from}
 use Rattle.gr_model.specs.Broker.{Outcome, wake, receive, max_tick}
 use Rattle.gr_model.specs.World.{World, Transition, view_of, log_of, absorbed, unchanged, followed_by, in_turn, frame_at, sweep_moment, deliver_frame_by, sweep_for_by, wake_for_by}
-use Rattle.gr_model_calls.specs.OneNet.{wake_for, deliver_frame, sweep_for, sweep}
+use Rattle.gr_model_calls.specs.OneNet.{sweep_for, sweep}
 use Rattle.gr_model.specs.Headline.{is_record_line, last_cut, last_horizon}
 use Rattle.gr_model_theorems.specs.Settles.{all_made, calls_in_turn, sweep_calls_for, sweep_calls, at_sweep, sent_past, times, is_expect, SweepSettles}
 use Rattle.gr_model.specs.Tree.{IsNet, IsSubscriber}
@@ -67,7 +67,7 @@ unfolding wake_for_by deliver_frame_by
 rises_chain net p n = record {
   nil = λ w f. record { horizon = λ b i. le_refl (view_of w b p).horizon; cut = le_refl (log_of w p).cut };
   seq = λ w t f g k a x b. record { horizon = λ c i. le_trans (a.horizon c i) (b.horizon c i); cut = le_trans a.cut b.cut };
-  wake = λ w b q f i j. call_rises net p w b q (wake net q b w.clock (view_of w b q) (log_of w q)) f i j (wake_call net q b w.clock (view_of w b q) (log_of w q) (reached_in net w q) n j i (f.logs q j) (f.views q b j i) (held_by_host net w b q f j)).horizon (wake_cuts net q b w.clock (view_of w b q) (log_of w q));
+  wake = λ w b q f i j. call_rises net p w b q (wake net q b w.clock (view_of w b q) (log_of w q)) f i j (wake_call net q b w.clock (view_of w b q) (log_of w q) (reached_in net w q) n j i (f.logs q j) (f.views q b j i) (held_by_host net w b q f j)).horizon (wake_cuts net q b w.clock (view_of w b q) (log_of w q) (f.logs q j).keeps);
   deliver = λ w x f t. call_rises net p w x.head.to x.head.publisher (receive net w.clock x (view_of w x.head.to x.head.publisher) (log_of w x.head.publisher)) f t.fits.to_in t.publisher_in
       (receive_call net w.clock x (view_of w x.head.to x.head.publisher) (log_of w x.head.publisher) (reached_in net w x.head.publisher) n t.publisher_in t.fits t.told (f.logs x.head.publisher t.publisher_in) (f.views x.head.publisher x.head.to t.publisher_in t.fits.to_in)).horizon
       (receive_cuts net w.clock x (view_of w x.head.to x.head.publisher) (log_of w x.head.publisher));

@@ -8,7 +8,7 @@ use Rattle.gr_sched.specs.declared.step.Line.{Line}
 use Rattle.gr_model.specs.declared.report.Report.{Report}
 use Rattle.gr_model.specs.declared.report.Report.TheVariants as line
 use Rattle.gr_model.specs.Net.{keeps_horizon, Net, is_host}
-use Rattle.gr_model.specs.World.{sent_lines, World, view_of, log_of, start, run_from_by}
+use Rattle.gr_model.specs.World.{sent_lines, World, view_of, log_of, start, start_by, run_from_by}
 use Rattle.gr_model_calls.specs.OneNet.{next, run_all, run_from, history_of}
 use Rattle.gr_model.specs.Headline.{GetsExactly, unlogged_after, InOrder, History, history, reopened_cut, record_of, history_after, begin, last_horizon, may_crash, HorizonsRise, sent_count, is_sent}
 use Rattle.gr_model_theorems.proofs.records.RecordLines.{sent_lines-append}
@@ -20,7 +20,7 @@ use Rattle.gr_model_calls.specs.Fits.{WorldFits, LinesFit, StepIn, StepsIn}
 use Rattle.gr_model_theorems.specs.Order.{CutsInOrder}
 use Rattle.gr_model_theorems.proofs.records.Records.{core_of}
 use Rattle.gr_model_theorems.proofs.records.Recorded.{RecordsFit, record_core, next_records, begin_fits, begin_lines, after_lines}
-use Rattle.gr_model_theorems.proofs.records.Gates.{GatesFit, next_gates, start_gates}
+use Rattle.gr_model_theorems.proofs.records.Stored.{StoredFit, next_stored, start_stored}
 use Rattle.gr_model_calls.proofs.runs.Schedules.{start_is, start_log, next_kept, start_fits, start_lines}
 use Rattle.gr_model_theorems.proofs.cuts.Cutlines.{CutsHave, CutsHave-at}
 use Rattle.gr_model_theorems.proofs.cuts.Orders.{CutFits, Ordered}
@@ -48,7 +48,7 @@ pub record Stands (net : Net) (w : World) (h : History) : Type 0 where
   pub named : Named net Any h.lines
   pub unlogged : Unlogged net w h.unlogged
   pub asks : AsksFit net w
-  pub gates : GatesFit net w h.gates
+  pub stored : StoredFit net w h.stored
 
 -- each sent frame has one line
 pub lines_long : (n : ℕ) (fs : List Frame) → length (sent_lines n fs) ≡ length fs
@@ -160,11 +160,11 @@ next_stands net w h l n z i k =
       named = subst (Named net Any) (sym e) (Named-append net Any h.lines (next net w l).lines k.named (Named-map net (IsShown net w) Any (next net w l).lines (λ b p t x. tt) (step_named net w l n k.fits i)));
       unlogged = subst (Unlogged net (next net w l).world) (sym (after_bare net h l (next net w l).lines)) (step_bare net w h l n z k.fits k.records k.asks.sent i k.unlogged);
       asks = next_holds net (ExpectFits net) (AsksFit net) w l n (asks_closed net n) k.fits k.asks i;
-      gates = next_gates net w h l n z k.fits k.records i k.gates;
+      stored = next_stored net w h l n z k.fits k.records i k.stored;
     }
 
 start_frames : (net : Net) → (start net).frames ≡ []
-unfolding start
+unfolding start_by
 start_frames net = refl
 
 start_bare : (net : Net) → IsNet net → Unlogged net (start net) (begin net).unlogged
@@ -190,7 +190,7 @@ start_stands net n = record {
   named = subst (Named net Any) (sym (begin_lines net)) tt;
   unlogged = start_bare net n;
   asks = start_asks net n;
-  gates = start_gates net;
+  stored = start_stored net;
 }
 
 -- the world after a schedule stands with its history

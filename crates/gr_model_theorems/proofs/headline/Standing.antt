@@ -65,7 +65,7 @@ fits_of net w h n k final =
       logs = λ p j. record {
         record_is = sym (record_core net w h p s.records);
         cut = sym (s.ordered.last p j);
-        gate = sym (s.gates.each p j);
+        stored = sym (s.stored.each p j);
       };
       sent = s.sent;
       got = λ a p i j.

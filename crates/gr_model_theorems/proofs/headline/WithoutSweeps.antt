@@ -13,7 +13,7 @@ use Rattle.gr_model.specs.Headline.{heard_after, history, History, history_after
 use Rattle.gr_model.specs.Tree.{IsNet}
 use Rattle.gr_model_calls.specs.Fits.{StepIn, StepsIn, WorldFits}
 use Rattle.gr_model_theorems.proofs.records.RecordSteps.{step_records}
-use Rattle.gr_model_theorems.proofs.records.Gates.{kept_at_gate}
+use Rattle.gr_model_theorems.proofs.records.Stored.{kept_where_stored, next_reclaims}
 use Rattle.gr_model_theorems.proofs.records.Doubtlines.{doubts_stand}
 use Rattle.gr_model_theorems.proofs.records.NamedLines.{Named, IsShown, step_named}
 use Rattle.gr_model_theorems.proofs.heard.Heard.{HeardFits}
@@ -49,7 +49,8 @@ delivered_exactly net w h n k = record {
 step_told : (net : Net) (w : World) (h : History) (l : Line) → IsNet net → 1 ≤ net.quiet → StepIn net l.step → Whole net w h → StepReports net h l (next net w l).lines
 step_told net w h l n z i k = record {
   records = step_records net w h l n z k.stands.fits k.stands.records (sent_count_is net w h k.stands) k.stands.ordered.last i;
-  kept = λ p number stop e at free due. kept_at_gate net w h l p number stop e k.stands.fits k.stands.records k.stands.gates i at free due;
+  kept = λ p number stop e at free due. kept_where_stored net w h l p number stop e k.stands.fits k.stands.records k.stands.stored i at free due;
+  reclaims = next_reclaims net w h l n z k.stands.fits k.stands.records i k.stands.stored;
   doubts_stand = doubts_stand net w l n k.stands.fits i;
   doubts_true = λ b p t c.
       let s = split_from (next net w l).lines (line.Doubt b p t) c.0 c.1 c.2 in

@@ -12,7 +12,7 @@ use Rattle.gr_tick.specs.Runs.{AreRuns}
 use Rattle.gr_know.specs.Values.{Known, known_at}
 use Rattle.gr_curio.specs.Values.{Wanted}
 use Rattle.gr_model.specs.Net.{Net, is_host, keeps_horizon, numbers}
-use Rattle.gr_model.specs.Broker.{joining, with_joins, drops, View, Log, Outcome, empty_log, learn, asking, expect, curiosity, wake, wake_host, wake_below, receive, clashes, stored, acknowledged, place_of, due, noted, publish, started}
+use Rattle.gr_model.specs.Broker.{joining, with_joins, drops, View, Log, Outcome, empty_log, learn, asking, expect, curiosity, wake, wake_host, wake_below, receive, stored, acknowledged, place_of, due, noted, publish, started}
 use Rattle.gr_model.specs.World.{join_now_by, World, blank_view, view_of, log_of, absorbed, restarted, deliver_frame_by, publish_now_by, wake_for_by}
 use Rattle.gr_model_calls.specs.OneNet.{join_now, wake_for, deliver_frame, publish_now}
 use Rattle.gr_model_calls.specs.Truth.{HasEvent, Facts, AllWantTruth}
@@ -21,7 +21,7 @@ use Rattle.gr_model_calls.specs.Fits.{WorldFits, ViewTrue, FrameTrue, BodyTrue, 
 use Rattle.gr_model_calls.proofs.calls.CallTruth.{ViewTrue-taken, curiosity_wants}
 use Rattle.gr_model_calls.proofs.asks.CallTicks.{IsTrimmed, trimmed-is, trimmed_above}
 use Rattle.gr_model_theorems.proofs.heard.Heard.{HeardFits, hears, learn_heard, kept_above}
-use Rattle.gr_model_calls.proofs.runs.Clash.{nothing_drops, true_pieces}
+use Rattle.gr_model_calls.proofs.runs.Clash.{nothing_drops}
 use Rattle.gr_model_calls.proofs.runs.Closed.{with_logs}
 use Rattle.gr_model_calls.proofs.runs.Schedules.{get_numbers}
 use Rattle.gr_model_calls.proofs.runs.Worlds.{absorbed_changed}

@@ -1,5 +1,5 @@
 -- What a history has heard is what the brokers below the host have heard, after each step but a sweep
-use Rattle.std.proofs.Common.{◌≡◌, ◌≢◌, ◌⊎◌, inl, inr, ℕ, suc, zero, ◌+◌, ◌≤◌, ◌<◌, max, Bool, true, false, not, ◌&&◌, ◌||◌, List, [], ◌∷◌, ◌++◌, length, set, get_or, replicate, refl, sym, ap, ap₂, ◌∙◌, subst, Option, Some, None, arith}
+use Rattle.std.proofs.Common.{◌≡◌, ◌≢◌, ◌⊎◌, inl, inr, ℕ, suc, zero, ◌+◌, ◌-◌, ◌≤◌, ◌<◌, max, Bool, true, false, not, ◌&&◌, ◌||◌, List, [], ◌∷◌, ◌++◌, length, set, get_or, replicate, refl, sym, ap, ap₂, ◌∙◌, subst, Option, Some, None, arith}
 use Rattle.std.specs.Prelude.{nat_eq, nat_le, nat_lt, if◌then◌else◌, filter, slice_get}
 use Rattle.std.specs.List.{list_any}
 use Rattle.std.proofs.lemmas.Bool.{cases_Bool, cases_eq, eq-eqb, ne_eqb, lt-ltb, true≢false}
@@ -252,12 +252,12 @@ stopped_hears net w k p number stop e heard n f j h = go (not_empty (net.subscri
     tick = max (suc log.settled) w.clock
 
     logs : List Log
-    logs = if is_kept log.gate stop.call stop.pick then set w.logs p (with_event log tick e) else w.logs
+    logs = if is_kept (log.size - 1) stop.call stop.pick then set w.logs p (with_event log tick e) else w.logs
 
     stopped : Transition
     stopped = record {
       world = restarted net (with_logs w logs) (net.host p);
-      lines = line.Crashed (net.host p) ∷ ((if is_kept log.gate stop.call stop.pick then line.Kept p number tick else line.Lost p number tick) ∷ opened_lines net logs (net.host p));
+      lines = line.Crashed (net.host p) ∷ ((if is_kept (log.size - 1) stop.call stop.pick then line.Kept p number tick else line.Lost p number tick) ∷ opened_lines net logs (net.host p));
     }
 
     go : (x y : Bool) → Hears net (let t : Transition = elim x [ true ↦ unchanged w (line.RefusedHosts k (net.host p) ∷ []) | false ↦ elim y [ false ↦ publish_now net w p number e | true ↦ stopped ] ] in t.world) (elim (if not x && y then Some (net.host p) else None) [ None ↦ heard | Some b ↦ heard_nothing net heard b ])

@@ -1,10 +1,10 @@
 -- A host that keeps a horizon has it where its log is settled, or at 0 while nothing was logged or marked since it started: over every schedule without a sweep
-use Rattle.std.proofs.Common.{◌≡◌, ◌≢◌, ◌⊎◌, inl, inr, ℕ, suc, zero, ◌+◌, ◌≤◌, ◌<◌, max, Bool, true, false, not, ◌&&◌, ◌||◌, List, [], ◌∷◌, ◌++◌, map, length, set, get_or, refl, sym, ap, ap₂, ◌∙◌, subst, Option, Some, None, arith}
+use Rattle.std.proofs.Common.{◌≡◌, ◌≢◌, ◌⊎◌, inl, inr, ℕ, suc, zero, ◌+◌, ◌-◌, ◌≤◌, ◌<◌, max, Bool, true, false, not, ◌&&◌, ◌||◌, List, [], ◌∷◌, ◌++◌, map, length, set, get_or, refl, sym, ap, ap₂, ◌∙◌, subst, Option, Some, None, arith}
 use Rattle.std.specs.Prelude.{nat_eq, nat_le, nat_lt, if◌then◌else◌, flat_map}
 use Rattle.std.specs.List.{list_any}
 use Rattle.std.proofs.lemmas.Bool.{cases_Bool, cases_eq, eq-eqb, ne_eqb, false≢true, true≢false, both_ways, lt-leb, le-ltb}
 use Rattle.std.proofs.lemmas.List.{get_or-set_other, get_or-set_same}
-use Rattle.gr_event.specs.Joins.{has_joined, Joins, longer}
+use Rattle.gr_event.specs.Joins.{has_joined, longer}
 use Rattle.gr_event.specs.declared.event.Event.{Event}
 use Rattle.gr_frame.specs.declared.Body.{Body}
 use Rattle.gr_frame.specs.declared.Body.TheVariants as body
@@ -16,7 +16,7 @@ use Rattle.gr_sched.specs.declared.step.Step.TheVariants as step
 use Rattle.gr_model.specs.declared.report.Report.{Report}
 use Rattle.gr_model.specs.declared.report.Report.TheVariants as line
 use Rattle.gr_model.specs.Net.{is_late, Net, is_host, keeps_horizon, numbers, numbers_from, not_empty}
-use Rattle.gr_model.specs.Broker.{joining, with_joins, drops, View, Log, Outcome, empty_log, learn, publish, wake, wake_host, wake_below, curiosity, receive, clashes, expect, place_of, with_event, is_kept, max_tick, started}
+use Rattle.gr_model.specs.Broker.{joining, with_joins, drops, View, Log, Outcome, empty_log, learn, publish, wake, wake_host, wake_below, curiosity, receive, expect, place_of, with_event, is_kept, max_tick, started}
 use Rattle.gr_model.specs.World.{join_now_by, World, Transition, blank_view, view_of, log_of, absorbed, unchanged, followed_by, in_turn, frame_at, restarted, crash, show, opened_lines, kept_events, deliver_frame_by, next_by, publish_now_by, publish_stopped_by, wake_all_by, wake_for_by}
 use Rattle.gr_model_calls.specs.OneNet.{join_now, wake_for, deliver_frame, publish_now, publish_stopped, next}
 use Rattle.gr_model.specs.Headline.{join_line, Recorded, History, is_record_line, is_record_of, publish_line, unlogged_after, each_flag, may_crash, is_next}
@@ -143,7 +143,7 @@ wake_bare net p w b q n z f i j keeps =
     ]
   where
     settled_now : p < net.publishers → (wake net p b w.clock (view_of w b p) (log_of w p)).log.settled ≡ (let r : Recorded = if is_host net p b then (if nat_le (host_settled p w + net.quiet) w.clock then record { last = (log_of w p).last; settled = w.clock; events = (log_of w p).events; joined = (log_of w p).joins } else core_of w p) else core_of w p in r.settled)
-    settled_now k = ap (λ r. r.settled) (wake_core net p b w.clock (view_of w b p) (log_of w p))
+    settled_now k = ap (λ r. r.settled) (wake_core net p b w.clock (view_of w b p) (log_of w p) (f.logs p k).keeps)
 
     here : p < net.publishers → RecordsFirst net p w (wake_for net w b p)
     here k =
@@ -443,12 +443,12 @@ stopped_bare net w k q number stop e bare n f j h = go (not_empty (net.subscribe
     tick = max (suc log.settled) w.clock
 
     logs : List Log
-    logs = if is_kept log.gate stop.call stop.pick then set w.logs q (with_event log tick e) else w.logs
+    logs = if is_kept (log.size - 1) stop.call stop.pick then set w.logs q (with_event log tick e) else w.logs
 
     stopped : Transition
     stopped = record {
       world = restarted net (with_logs w logs) (net.host q);
-      lines = line.Crashed (net.host q) ∷ ((if is_kept log.gate stop.call stop.pick then line.Kept q number tick else line.Lost q number tick) ∷ opened_lines net logs (net.host q));
+      lines = line.Crashed (net.host q) ∷ ((if is_kept (log.size - 1) stop.call stop.pick then line.Kept q number tick else line.Lost q number tick) ∷ opened_lines net logs (net.host q));
     }
 
     same : (c : Bool) (p : ℕ) → p < net.publishers → net.host p ≢ net.host q → get_or (if c then set w.logs q (with_event log tick e) else w.logs) p empty_log ≡ log_of w p
@@ -458,7 +458,7 @@ stopped_bare net w k q number stop e bare n f j h = go (not_empty (net.subscribe
     go : (x y : Bool) → not_empty (net.subscribers_at (net.host q)) ≡ x → (let t : Transition = elim x [ true ↦ unchanged w (line.RefusedHosts k (net.host q) ∷ []) | false ↦ elim y [ false ↦ publish_now net w q number e | true ↦ stopped ] ] in Unlogged net t.world (flags net (if not x && y then Some (net.host q) else None) bare t.lines))
     go true y z = tells_bare net w (unchanged w (line.RefusedHosts k (net.host q) ∷ [])) bare h (λ p i keeps. tells_still net p w (unchanged w (line.RefusedHosts k (net.host q) ∷ [])) refl refl refl)
     go false false z = tells_bare net w (publish_now net w q number e) bare h (λ p i keeps. publish_bare net p w q number e n f j keeps)
-    go false true z = restarted_bare net w logs (net.host q) bare f (n.host_in q j) (ap not z) (same (is_kept log.gate stop.call stop.pick)) h
+    go false true z = restarted_bare net w logs (net.host q) bare f (n.host_in q j) (ap not z) (same (is_kept (log.size - 1) stop.call stop.pick)) h
 
 -- after each step but a sweep the flags say where the horizons of the hosts are
 pub bare_by : (net : Net) (w : World) (h : History) (k : ℕ) (s : Step) → IsNet net → 1 ≤ net.quiet → WorldFits net w → RecordsFit net w h → Each (ExpectFits net) w.frames → StepIn net s → is_sweep s ≡ false → Unlogged net w h.unlogged → Unlogged net (next net w (record { number = k; step = s })).world (unlogged_after net h (record { number = k; step = s }) (next net w (record { number = k; step = s })).lines)

@@ -18,7 +18,8 @@ use Rattle.gr_model.specs.Tree.{IsNet}
 use Rattle.gr_model_calls.proofs.calls.HostCases.{joining_cases, publish_cases, marking_cases, news_of}
 use Rattle.gr_tick.proofs.RunLaws.{first_bottom_from-is}
 use Rattle.gr_model_calls.proofs.calls.CallTruth.{ViewTrue-joins, joined-is, learned_horizon, ViewTrue-later}
-use Rattle.gr_model_calls.proofs.calls.Calls.{joining_call, CallTrue, learn_horizon, cutting_same, marking_call, wake_call, publish_call, receive_call, later_facts, silence_true, nothing_true, said_more, published_piece}
+use Rattle.gr_model_calls.proofs.calls.Cutting.{cutting_settled}
+use Rattle.gr_model_calls.proofs.calls.Calls.{joining_call, CallTrue, learn_horizon, marking_call, wake_call, publish_call, receive_call, later_facts, silence_true, nothing_true, said_more, published_piece}
 use Rattle.gr_model_theorems.proofs.heard.Heard.{learn_above, horizon_keeps}
 use Rattle.gr_model_theorems.proofs.records.Records.{core, receive_log}
 use Rattle.gr_model_calls.proofs.calls.Held.{own, grows_not}
@@ -85,7 +86,7 @@ wake_meets net p b now v log reached n i j host keeps fit h js known m = go (is_
 
     go : (q : Bool) → q ≡ true → (let u : Outcome = elim q [ true ↦ wake_host net p b now v log | false ↦ wake_below net p b now v log ] in Meets u.view u.log)
     go false e = absurd (false≢true e)
-    go true e = marking_meets net p b now v log reached n i j host keeps fit h js known m ∙ sym (cutting_same net p b o.view o.log).settled
+    go true e = marking_meets net p b now v log reached n i j host keeps fit h js known m ∙ sym (cutting_settled net p b o.view o.log)
 
 -- a publish that is recorded brings the host's horizon to where its log is settled, and each other leaves it there
 pub publish_meets : (net : Net) (p b now number : ℕ) (e : Event) (v : View) (log : Log) (reached : ℕ → ℕ) → IsNet net → p < net.publishers → b < net.brokers → is_host net p b ≡ true → keeps_horizon net p b ≡ true → LogFits log → ViewTrue net (facts log reached) p b v → v.joins ≡ log.joins → HostKnows v log.settled → (is_record_of p (publish_line p now number (core log)) ≡ false → Meets v log) → Meets (publish net p b now number e v log).view (publish net p b now number e v log).log

@@ -1,5 +1,5 @@
 -- What holds of every schedule, joins and all: what holds of the run on the net of its last joins, said of what the record or the logs show
-use Rattle.std.proofs.Common.{◌≡◌, ◌⊎◌, inl, inr, ℕ, zero, suc, ◌<◌, ◌≤◌, Bool, true, false, ◌&&◌, List, [], ◌∷◌, ◌++◌, map, filter, replicate, get_or, refl, sym, ap, ap₂, ◌∙◌, subst}
+use Rattle.std.proofs.Common.{◌≡◌, inr, ℕ, zero, suc, ◌<◌, ◌≤◌, Bool, true, false, ◌&&◌, List, [], ◌∷◌, ◌++◌, map, filter, replicate, get_or, refl, sym, ap, ◌∙◌, subst}
 use Rattle.std.specs.Prelude.{nat_eq, nat_le, if◌then◌else◌, Contains, ◌↔◌}
 use Rattle.std.specs.List.{list_any}
 use Rattle.gr_event.specs.declared.event.Event.{Event}
@@ -19,7 +19,6 @@ use Rattle.gr_model_calls.specs.OneNet.{last_net}
 use Rattle.gr_model_calls.specs.Truth.{Grows}
 use Rattle.gr_model_calls.specs.Fits.{WorldFits, StepIn, StepsIn, history_of}
 use Rattle.gr_model_calls.proofs.calls.Held.{grows_not}
-use Rattle.gr_model_calls.proofs.calls.Told.{TicksUpto}
 use Rattle.gr_model_calls.proofs.runs.Schedules.{start_fits, always_true}
 use Rattle.gr_model_calls.proofs.joins.Growing.{AheadOf}
 use Rattle.gr_model_calls.proofs.joins.OneRun.{IsNet-with, run_ahead, next_ahead, ahead_before, report_only, run_is}
@@ -29,7 +28,6 @@ use Rattle.gr_model_theorems.specs.Replies.{Replied, Replied_from, replies}
 use Rattle.gr_model_theorems.specs.Settles.{SweepSettles, AllGot, is_accepted}
 use Rattle.gr_model_theorems.specs.Standing.{Fits}
 use Rattle.gr_model_theorems.specs.Statements.{world_after, joined_net, SweepsAsOne, DoubtsStand}
-use Rattle.gr_model_theorems.proofs.records.Records.{core_of}
 use Rattle.gr_model_theorems.proofs.records.Recorded.{RecordsFit, record_core, runs, begin_fits, next_records, gets_exactly as gets_on_one}
 use Rattle.gr_model_theorems.proofs.records.Doubtlines.{doubts_stand as doubts_on_one}
 use Rattle.gr_model_theorems.proofs.cuts.CutOrder.{cuts_in_order as cuts_on_one}
@@ -41,7 +39,7 @@ use Rattle.gr_model_theorems.proofs.headline.SettlesAlways.{sweep_settles as set
 use Rattle.gr_model_theorems.proofs.sweep.RunsByRules.{schedule_by_rules as rules_on_one, schedule_once as once_on_one}
 use Rattle.gr_model_theorems.proofs.order.Always.{ordered_always as ordered_on_one}
 use Rattle.gr_model_theorems.proofs.joins.Owing.{RecordedAhead, RecordsUpto, ahead_at, records_upto, after_same, expected_on, holds_on}
-use Rattle.gr_model_theorems.proofs.joins.AsOne.{AsOne, as_one, subscriber_in, start_same, history_same}
+use Rattle.gr_model_theorems.proofs.joins.AsOne.{as_one, subscriber_in, start_same}
 
 -- The record's joins are the logs'
 

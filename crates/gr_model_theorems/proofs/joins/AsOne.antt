@@ -1,5 +1,5 @@
 -- A run with joins beside the run on the net of its last joins: they tell and leave the same
-use Rattle.std.proofs.Common.{◌≡◌, ◌⊎◌, inl, inr, ℕ, ◌<◌, ◌≤◌, Bool, true, List, [], ◌∷◌, refl, sym, ap, ◌∙◌, subst}
+use Rattle.std.proofs.Common.{◌≡◌, inl, ℕ, Bool, List, [], ◌∷◌, refl, sym, ap, ◌∙◌, subst}
 use Rattle.gr_event.specs.declared.event.Event.{Event}
 use Rattle.gr_event.specs.Joins.{Joins}
 use Rattle.gr_sched.specs.declared.step.Line.{Line}
@@ -7,13 +7,13 @@ use Rattle.gr_model.specs.declared.report.Report.{Report}
 use Rattle.gr_model.specs.Net.{Net, with_wants, wants_with}
 use Rattle.gr_model.specs.Tree.{IsNet, IsSubscriber}
 use Rattle.gr_model.specs.Broker.{started}
-use Rattle.gr_model.specs.World.{World, Transition, log_of, start, run_all, run_from, report_of}
-use Rattle.gr_model.specs.Headline.{History, history, history_after, record_of, begin}
+use Rattle.gr_model.specs.World.{World, log_of, start, start_by, run_all, run_from, report_of}
+use Rattle.gr_model.specs.Headline.{History, history, history_after, begin}
 use Rattle.gr_model_calls.specs.OneNet as one
 use Rattle.gr_model_calls.specs.OneNet.{last_net}
 use Rattle.gr_model_calls.specs.Fits.{WorldFits, StepsIn, history_of}
 use Rattle.gr_model_calls.proofs.runs.Schedules.{start_fits}
-use Rattle.gr_model_calls.proofs.joins.OneRun.{IsNet-with, run_is, lines_are, report_is, report_only}
+use Rattle.gr_model_calls.proofs.joins.OneRun.{IsNet-with, run_is, lines_are, report_is}
 use Rattle.gr_model_theorems.specs.Spelled.{LateIn}
 use Rattle.gr_model_theorems.specs.Statements.{world_after, joined_net}
 use Rattle.gr_model_theorems.proofs.joins.Owing.{after_same}
@@ -29,7 +29,7 @@ history_same net last h (l ∷ ls) [] = refl
 history_same net last h (l ∷ ls) (r ∷ rs) = ap (λ (g : History). history (with_wants net (λ p s t e. wants_with net (last p) p s t e)) g ls rs) (after_same net last h l r) ∙ history_same net last (history_after net h l r) ls rs
 
 pub start_same : (net : Net) (f : ℕ → ℕ → ℕ → Event → Bool) → start (with_wants net f) ≡ start net
-unfolding start started
+unfolding start_by started
 start_same net f = refl
 
 begin_same : (net : Net) (f : ℕ → ℕ → ℕ → Event → Bool) → begin (with_wants net f) ≡ begin net

@@ -1,5 +1,5 @@
 -- Processes that run side by side, with joins: what holds on the net of the last joins
-use Rattle.std.proofs.Common.{◌≡◌, ◌⊎◌, inl, inr, ℕ, ◌<◌, ◌≤◌, Bool, List, [], ◌∷◌, ◌++◌, filter, refl, sym, ap, ap₂, ◌∙◌, subst, Ok}
+use Rattle.std.proofs.Common.{◌≡◌, inl, ℕ, ◌≤◌, Bool, List, [], ◌∷◌, ◌++◌, filter, refl, sym, ap, ◌∙◌, subst, Ok}
 use Rattle.std.specs.List.{AllByRecursion}
 use Rattle.gr_event.specs.declared.event.Event.{Event}
 use Rattle.gr_event.specs.Joins.{Joins}
@@ -20,7 +20,6 @@ use Rattle.gr_model_calls.specs.Truth.{Grows}
 use Rattle.gr_model_calls.specs.Fits.{WorldFits, StepIn, StepsIn}
 use Rattle.gr_model_calls.proofs.calls.Held.{grows_not}
 use Rattle.gr_model_calls.proofs.runs.Schedules.{report_lines}
-use Rattle.gr_model_calls.proofs.runs.Seeing.{Back}
 use Rattle.gr_model_calls.proofs.joins.Growing.{AheadOf}
 use Rattle.gr_model_calls.proofs.joins.OneRun.{IsNet-with}
 use Rattle.gr_model_theorems.specs.Spelled.{IsInLimits, NumbersIn, IsSpelled, WorldIn}

@@ -1,12 +1,11 @@
 -- A late subscriber has exactly the events past its join that its filter matches, up to its last horizon, and nothing while it has none
-use Rattle.std.proofs.Common.{◌≡◌, ◌⊎◌, inl, inr, ℕ, zero, suc, ◌+◌, ◌<◌, ◌≤◌, Bool, true, false, not, ◌&&◌, ◌||◌, List, [], ◌∷◌, ◌++◌, map, filter, set, get_or, replicate, refl, sym, ap, ap₂, ◌∙◌, subst, Option, Some, None}
+use Rattle.std.proofs.Common.{◌≡◌, ℕ, zero, suc, ◌+◌, ◌<◌, ◌≤◌, Bool, true, false, not, ◌&&◌, ◌||◌, List, [], ◌∷◌, map, filter, set, get_or, replicate, refl, ap, ap₂, ◌∙◌, subst, Option, Some, None}
 use Rattle.std.specs.Prelude.{nat_eq, nat_le, nat_lt, if◌then◌else◌}
 use Rattle.std.proofs.lemmas.Bool.{and_parts, or_parts, or_from, eqb-true}
 use Rattle.gr_event.specs.declared.event.Event.{Event}
 use Rattle.gr_event.specs.Joins.{Joins, has_joined, joined_below, tick_of, JoinOnce}
 use Rattle.gr_event.specs.declared.join.Join.{Join}
 use Rattle.gr_event.proofs.Joining.{once_with}
-use Rattle.gr_sched.specs.declared.step.Stop.{Stop}
 use Rattle.gr_sched.specs.declared.step.Step.{Step}
 use Rattle.gr_sched.specs.declared.step.Step.TheVariants as step
 use Rattle.gr_sched.specs.declared.step.Line.{Line}
@@ -16,7 +15,7 @@ use Rattle.gr_model.specs.Tree.{IsNet, IsSubscriber}
 use Rattle.gr_model.specs.Broker.{max_tick}
 use Rattle.gr_model.specs.World.{start, run_from}
 use Rattle.gr_model.specs.Headline as headline
-use Rattle.gr_model.specs.Headline.{Recorded, nothing_recorded, History, record_of, is_next, recording, settling, marked, each_record, may_enter, with_joined, sweep_at, is_swept, says_kept, records_after, history_after, history, begin, expected, last_horizon, delivered_events, recorded_net}
+use Rattle.gr_model.specs.Headline.{Recorded, nothing_recorded, History, record_of, is_next, recording, settling, marked, each_record, may_enter, with_joined, sweep_at, is_swept, says_kept, records_after, history_after, history, begin, expected, last_horizon, delivered_events}
 use Rattle.gr_model_calls.specs.Fits.{StepsIn, history_of}
 use Rattle.gr_model_theorems.specs.Statements.{due_late}
 use Rattle.gr_model_calls.proofs.joins.Growing.{set_or}

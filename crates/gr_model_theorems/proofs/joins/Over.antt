@@ -1,15 +1,15 @@
 -- Over logs that were found, with joins: the opening and the run after it are those on the net of the last joins
-use Rattle.std.proofs.Common.{◌≡◌, ◌⊎◌, inl, inr, ℕ, zero, suc, ◌<◌, ◌≤◌, Bool, true, List, [], ◌∷◌, ◌++◌, map, refl, sym, ap, ◌∙◌, subst}
+use Rattle.std.proofs.Common.{◌≡◌, inl, inr, ℕ, zero, suc, ◌<◌, ◌≤◌, Bool, List, [], ◌∷◌, ◌++◌, map, refl, sym, ap, ◌∙◌, subst}
 use Rattle.gr_event.specs.declared.event.Event.{Event}
 use Rattle.gr_event.specs.Joins.{Joins}
 use Rattle.gr_sched.specs.declared.step.Line.{Line}
 use Rattle.gr_model.specs.declared.report.Report.{Report}
 use Rattle.gr_model.specs.Net.{Net, with_wants, wants_with, numbers}
 use Rattle.gr_model.specs.Tree.{IsNet}
-use Rattle.gr_model.specs.Broker.{View, Log, seen, started}
+use Rattle.gr_model.specs.Broker.{Log, seen, started}
 use Rattle.gr_model.specs.World.{World, Transition, log_of, unchanged, in_turn, run_all, run_from}
 use Rattle.gr_model.specs.Opening.{reopened_log, over_logs, publishers_at, opened_for_by, opening, opening_by, recorded_of, begin_over}
-use Rattle.gr_model.specs.Headline.{Recorded, nothing_recorded, History, history, record_of, Holds_from, Holds_from_by}
+use Rattle.gr_model.specs.Headline.{Recorded, History, history, record_of, Holds_from, Holds_from_by}
 use Rattle.gr_model_calls.specs.OneNet as one
 use Rattle.gr_model_calls.specs.OneNet.{last_net}
 use Rattle.gr_model_calls.specs.Truth.{Grows}
@@ -17,12 +17,12 @@ use Rattle.gr_model_calls.specs.Fits.{WorldFits, StepsIn}
 use Rattle.gr_model_calls.proofs.calls.Calls.{rise_upto}
 use Rattle.gr_model_calls.proofs.calls.Held.{grows_not}
 use Rattle.gr_model_calls.proofs.runs.Worlds.{Each}
-use Rattle.gr_model_calls.proofs.runs.Seeing.{Back, Runs, Runs-same, Runs-after, in_turn_back, run_back}
+use Rattle.gr_model_calls.proofs.runs.Seeing.{Runs, Runs-same, Runs-after, in_turn_back, run_back}
 use Rattle.gr_model_calls.proofs.joins.Growing.{AheadOf, growing}
 use Rattle.gr_model_calls.proofs.joins.OneRun.{IsNet-with, run_is, lines_are}
 use Rattle.gr_model_calls.proofs.joins.Opened.{opened_back, opened_same}
 use Rattle.gr_model_theorems.specs.Statements.{started_over, ended_over, over_net, RunsOverByRules, RunsOverByNoOther, OpeningTells, OpeningSendsNothing, RunsOverAsOne}
-use Rattle.gr_model_theorems.specs.Found.{IsReopened, AreReopened}
+use Rattle.gr_model_theorems.specs.Found.{AreReopened}
 use Rattle.gr_model_theorems.proofs.records.Recorded.{record_core, runs}
 use Rattle.gr_model_theorems.proofs.server.Opening.{Opening, opening_turn, over_opening}
 use Rattle.gr_model_theorems.proofs.server.OverLogs.{publishers_below, opened, opened_whole, headline_over_logs as headline_on_one}
@@ -32,7 +32,7 @@ use Rattle.gr_model_theorems.proofs.server.OpenedLines.{opened_tells, opened_sen
 use Rattle.gr_model_theorems.proofs.server.OpenedFits.{stands_over_logs}
 use Rattle.gr_model_theorems.proofs.server.OpensByRules.{over_by_rules as rules_on_one, over_once as once_on_one}
 use Rattle.gr_model_theorems.proofs.joins.Owing.{RecordsUpto, holds_on}
-use Rattle.gr_model_theorems.proofs.joins.AsOne.{OnAsOne, on_as_one, history_same}
+use Rattle.gr_model_theorems.proofs.joins.AsOne.{on_as_one, history_same}
 
 -- who wants what is no matter of logs that were found
 pub reopened_in : (net : Net) (f : ℕ → ℕ → ℕ → Event → Bool) (logs : List Log) → AreReopened net logs → AreReopened (with_wants net f) logs

@@ -1,22 +1,21 @@
 -- A report that says what the net of the last joins demands says what the joins so far demand
-use Rattle.std.proofs.Common.{◌≡◌, ◌≢◌, ◌⊎◌, inl, inr, ⊎_elim, ℕ, suc, zero, ◌+◌, ◌≤◌, ◌<◌, max, Bool, true, false, not, ◌&&◌, List, [], ◌∷◌, ◌++◌, map, filter, length, set, get_or, refl, sym, ap, ap₂, ◌∙◌, subst, Option, Some, None, arith, le_trans, le_refl}
-use Rattle.std.specs.Prelude.{nat_eq, nat_le, nat_lt, if◌then◌else◌, Contains, IsTrue, slice_get}
+use Rattle.std.proofs.Common.{◌≡◌, inl, inr, ℕ, suc, zero, ◌+◌, ◌≤◌, ◌<◌, Bool, true, false, not, ◌&&◌, List, [], ◌∷◌, ◌++◌, map, filter, length, set, get_or, refl, sym, ap, ap₂, ◌∙◌, subst, Some, None, arith, le_trans, le_refl}
+use Rattle.std.specs.Prelude.{nat_le, if◌then◌else◌, Contains, IsTrue}
 use Rattle.std.proofs.lemmas.Bool.{leb-true, cases_Bool}
 use Rattle.gr_event.specs.declared.event.Event.{Event}
-use Rattle.gr_event.specs.Joins.{Joins, joined_below, NoneBelow}
-use Rattle.gr_sched.specs.declared.step.Stop.{Stop}
+use Rattle.gr_event.specs.Joins.{Joins}
 use Rattle.gr_sched.specs.declared.step.Step.{Step}
 use Rattle.gr_sched.specs.declared.step.Step.TheVariants as step
 use Rattle.gr_sched.specs.declared.step.Line.{Line}
 use Rattle.gr_model.specs.declared.report.Report.{Report}
 use Rattle.gr_model.specs.declared.report.Report.TheVariants as line
 use Rattle.gr_model.specs.Net.{Net, is_host, is_late, with_wants, wants_with}
-use Rattle.gr_model.specs.Headline.{Recorded, nothing_recorded, History, record_of, tick_of, is_next, recording, settling, marked, each_record, may_enter, with_joined, sweep_at, is_swept, greatest, says_kept, records_after, clock_after, most_after, gates_after, heard_after, unlogged_after, history_after, history, begin, expected, record_lines, IsDoubt, StepReports, Delivered, InOrder, Holds_from_by, recorded_net, last_horizon, delivered_events}
-use Rattle.gr_model_calls.specs.OneNet.{Holds_from}
-use Rattle.gr_model_calls.specs.Truth.{Grows, Holds}
+use Rattle.gr_model.specs.Headline.{Recorded, nothing_recorded, History, record_of, tick_of, is_next, recording, settling, marked, each_record, may_enter, with_joined, sweep_at, is_swept, greatest, says_kept, records_after, clock_after, most_after, Stored, standing_of, is_reclaimed_line, heard_after, unlogged_after, history_after, history, expected, record_lines, IsDoubt, StepReports, Delivered, InOrder, Holds_from_by, recorded_net, last_horizon}
+use Rattle.gr_model_calls.specs.Truth.{Grows}
 use Rattle.gr_model_calls.proofs.calls.Told.{TicksUpto}
 use Rattle.gr_model_calls.proofs.calls.Held.{shows, grows_not, grows_on, NoneBelow-lower}
 use Rattle.gr_model_calls.proofs.joins.Growing.{set_or}
+use Rattle.gr_model_theorems.proofs.records.Standings.{stored_seen, behind_seen}
 
 -- a record that goes on from another
 pub record RecordOn (r new : Recorded) : Type 0 where
@@ -212,12 +211,14 @@ module _ (net : Net) (last : ℕ → Joins) where
   }
 
   pub after_same : (h : History) (l : Line) (ls : List Report) → history_after one h l ls ≡ history_after net h l ls
-  unfolding history_after clock_after most_after records_after heard_after unlogged_after gates_after
-  after_same h l ls = refl
+  unfolding history_after clock_after most_after records_after heard_after unlogged_after
+  after_same h l ls =
+      let with_stored : List Stored → History = λ ss. record (history_after net h l ls) { stored = ss } in
+      ap with_stored (stored_seen net (λ p s t e. wants_with net (last p) p s t e) h l ls)
 
   step_on : (h : History) (l : Line) (ls : List Report) → StepReports one h l ls → StepReports net h l ls
   unfolding record_lines records_after
-  step_on h l ls s = record { records = s.records; kept = s.kept; doubts_stand = s.doubts_stand; doubts_true = λ b p t c. let d = s.doubts_true b p t c in record { at_host = d.at_host; below = d.below; ends = d.ends } }
+  step_on h l ls s = record { records = s.records; kept = s.kept; reclaims = s.reclaims ∙ behind_seen net (λ p t u e. wants_with net (last p) p t u e) (record_of h) (standing_of h) (filter (λ x. not (is_reclaimed_line x)) ls); doubts_stand = s.doubts_stand; doubts_true = λ b p t c. let d = s.doubts_true b p t c in record { at_host = d.at_host; below = d.below; ends = d.ends } }
 
   abbrev LastOf : History → List Line → List (List Report) → Type 0
   LastOf h ls rs = (p : ℕ) → (record_of (history net h ls rs) p).joined ≡ last p

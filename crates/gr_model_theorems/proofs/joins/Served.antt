@@ -1,13 +1,11 @@
--- A server over logs that were found, with joins, and all that begins on the logs of lanes: what holds on the net of the last joins
-use Rattle.std.proofs.Common.{◌≡◌, ◌⊎◌, inl, inr, ℕ, ◌<◌, ◌≤◌, Bool, true, List, [], ◌∷◌, ◌++◌, length, refl, sym, ap, ◌∙◌, subst}
+-- A server over logs that were found, with joins, and all that begins on logs that were opened: what holds on the net of the last joins
+use Rattle.std.proofs.Common.{◌≡◌, inl, ℕ, ◌<◌, ◌≤◌, Bool, true, List, [], ◌∷◌, sym, ap, ◌∙◌, subst}
 use Rattle.std.specs.Prelude.{nat_eq}
 use Rattle.std.specs.List.{AllByRecursion, list_any}
 use Rattle.gr_event.specs.declared.event.Event.{Event}
-use Rattle.gr_event.specs.declared.limits.TheConstants.{MAX_JOINS}
 use Rattle.gr_event.specs.Joins.{Joins}
 use Rattle.gr_frame.specs.Bytes.{frame_bytes}
 use Rattle.gr_frame.proofs.Spelled.{spelled_decodes}
-use Rattle.gr_publog.specs.declared.record.Record.{Record}
 use Rattle.gr_sched.specs.declared.step.Line.{Line}
 use Rattle.gr_model.specs.declared.report.Report.{Report}
 use Rattle.gr_model.specs.Net.{Net, with_wants, wants_with, numbers}
@@ -16,7 +14,6 @@ use Rattle.gr_model.specs.Broker.{Log, seen}
 use Rattle.gr_model.specs.World.{World, Transition, log_of, run_from}
 use Rattle.gr_model.specs.Opening.{begin_over}
 use Rattle.gr_model.specs.Headline.{History, Holds_from, recorded_net}
-use Rattle.gr_model.specs.Ordered.{OneOrder}
 use Rattle.gr_model.specs.Arrivals.{Arrival, requests_of, served, served_by, served_from_by, arrived_by, Request}
 use Rattle.gr_model_calls.specs.OneNet as one
 use Rattle.gr_model_calls.specs.Fits.{StepsIn}
@@ -27,12 +24,13 @@ use Rattle.gr_model_theorems.specs.Found.{AreReopened}
 use Rattle.gr_model_theorems.specs.Spelled.{NumbersIn, WorldIn}
 use Rattle.gr_model_theorems.specs.Served.{IsOfBytes, IsHonest, IsHonestRun, HeadlineServed_by, HoldsServed_by, AllDoSteps}
 use Rattle.gr_model_theorems.specs.Statements.{started_over, opened_over, lines_over, over_net, served_end, served_net, MeetsHeadlineServed, ArrivalsDoSteps}
-use Rattle.gr_model_theorems.specs.Lanes.{AllFollow, whole_logs, found_logs, lanes_net, HoldsOverLanes, HoldsServedLanes}
+use Rattle.gr_model_theorems.specs.Forgets.{kept_logs}
+use Rattle.gr_model_theorems.specs.Lanes.{lanes_net, HoldsOverLanes, HoldsServedLanes}
 use Rattle.gr_model_theorems.specs.OrderedServed.{told_in_order, opened_report, TotallyOrderedOver, OrderedOverLanes, OneOrderOverLanes, TotallyOrderedServed, OrderedServedLanes, OneOrderServedLanes}
 use Rattle.gr_model_theorems.proofs.limits.Spelled.{IsSmall, next_in}
 use Rattle.gr_model_theorems.proofs.server.Serving.{requests_are_in}
 use Rattle.gr_model_theorems.proofs.server.ServedOver.{opened_ready, begun_lines, served_does as does_on_one}
-use Rattle.gr_model_theorems.proofs.server.Lanes.{are_found, served_lanes, cut_events_silent}
+use Rattle.gr_model_theorems.proofs.server.Lanes.{opened_the_same}
 use Rattle.gr_model_theorems.proofs.order.OverLogs.{ordered_over, at_end as over_end}
 use Rattle.gr_model_theorems.proofs.order.Served.{ordered_served, at_end as served_at_end}
 use Rattle.gr_model_theorems.proofs.order.OneOrder.{in_one_order}
@@ -123,58 +121,59 @@ served_does net logs steps arrivals n small z retry a i m fits honest =
       reports = x.reports;
     }
 
--- Lanes
+-- Logs that were opened
 
-pub holds_over_lanes : (net : Net) (lanes : List (List Record)) (steps : List Line) → IsNet net → 1 ≤ net.quiet → 1 ≤ net.retry → length net.late ≤ MAX_JOINS → AllFollow net.late lanes → StepsIn net steps → HoldsOverLanes net lanes steps
-holds_over_lanes net lanes steps n z r few a i =
-    let k = cut_events_silent (seen net) net net.late lanes a in
-    let founds : List Log = found_logs lanes in
-    subst (λ (ls : List Report). Holds_from net (begin_over net founds ls) steps (lines_over net (whole_logs lanes) steps)) (sym k.opened)
-    (subst (λ (rs : List (List Report)). Holds_from net (begin_over net founds (started_over net founds).lines) steps rs) (sym (k.lines steps)) (headline_over net founds steps n z r (are_found net lanes few a) i))
+pub holds_over_lanes : (net : Net) (logs : List Log) (steps : List Line) → IsNet net → 1 ≤ net.quiet → 1 ≤ net.retry → AreReopened net (kept_logs logs) → StepsIn net steps → HoldsOverLanes net logs steps
+holds_over_lanes net logs steps n z r a i =
+    let k = opened_the_same (seen net) net (numbers net.brokers) logs in
+    let kept : List Log = kept_logs logs in
+    subst (λ (ls : List Report). Holds_from net (begin_over net kept ls) steps (lines_over net logs steps)) (sym k.opened)
+    (subst (λ (rs : List (List Report)). Holds_from net (begin_over net kept (started_over net kept).lines) steps rs) (sym (k.lines steps)) (headline_over net kept steps n z r a i))
 
-pub holds_served_lanes : (net : Net) (lanes : List (List Record)) (steps : List Line) (arrivals : List Arrival) → IsNet net → IsSmall net → 1 ≤ net.quiet → 1 ≤ net.retry → AllFollow net.late lanes → StepsIn net steps → NumbersIn steps → AllByRecursion IsOfBytes arrivals → IsHonestRun arrivals (served net (numbers net.brokers) (whole_logs lanes) steps arrivals) → HoldsServedLanes net lanes steps arrivals
-holds_served_lanes net lanes steps arrivals n small z r a i m fits =
-    subst (λ (rs : List (List Report)). IsHonestRun arrivals rs → HeadlineServed_by (recorded_net net) (over_net net (found_logs lanes) []) net (found_logs lanes) steps arrivals rs) (sym (served_lanes (seen net) net net.late lanes steps arrivals a))
-    (λ honest. headline_served net (found_logs lanes) steps arrivals n small z r (are_found net lanes small.late.few a) i m fits honest)
+pub holds_served_lanes : (net : Net) (logs : List Log) (steps : List Line) (arrivals : List Arrival) → IsNet net → IsSmall net → 1 ≤ net.quiet → 1 ≤ net.retry → AreReopened net (kept_logs logs) → StepsIn net steps → NumbersIn steps → AllByRecursion IsOfBytes arrivals → IsHonestRun arrivals (served net (numbers net.brokers) logs steps arrivals) → HoldsServedLanes net logs steps arrivals
+holds_served_lanes net logs steps arrivals n small z r a i m fits =
+    let k = opened_the_same (seen net) net (numbers net.brokers) logs in
+    subst (λ (rs : List (List Report)). IsHonestRun arrivals rs → HeadlineServed_by (recorded_net net) (over_net net (kept_logs logs) []) net (kept_logs logs) steps arrivals rs) (sym (k.served_same steps arrivals))
+    (λ honest. headline_served net (kept_logs logs) steps arrivals n small z r a i m fits honest)
 
 -- One order
 
 -- of a schedule
-pub ordered_lanes : (net : Net) (totals : List ℕ) (lanes : List (List Record)) (steps : List Line) → IsNet net → 1 ≤ net.quiet → length net.late ≤ MAX_JOINS → AllFollow net.late lanes → StepsIn net steps → IsDistinct totals → ((s : ℕ) → list_any (λ x. nat_eq x s) totals ≡ true → s < net.subscribers)
-    → OrderedOverLanes net totals lanes steps
-ordered_lanes net totals lanes steps n z few a i apart there =
-    let k = cut_events_silent (seen net) net net.late lanes a in
-    let founds : List Log = found_logs lanes in
-    let x = over_as_one net founds steps n (are_found net lanes few a) i in
-    let g = over_net net founds steps in
-    let same : opened_report net lanes steps ≡ (opened_over g founds).lines ∷ one.run_from g (opened_over g founds).world steps =
-    ap (λ (ls : List Report). ls ∷ lines_over net (whole_logs lanes) steps) k.opened
-    ∙ ap (λ (rs : List (List Report)). (started_over net founds).lines ∷ rs) (k.lines steps ∙ x.lines)
+pub ordered_lanes : (net : Net) (totals : List ℕ) (logs : List Log) (steps : List Line) → IsNet net → 1 ≤ net.quiet → AreReopened net (kept_logs logs) → StepsIn net steps → IsDistinct totals → ((s : ℕ) → list_any (λ x. nat_eq x s) totals ≡ true → s < net.subscribers)
+    → OrderedOverLanes net totals logs steps
+ordered_lanes net totals logs steps n z a i apart there =
+    let k = opened_the_same (seen net) net (numbers net.brokers) logs in
+    let kept : List Log = kept_logs logs in
+    let x = over_as_one net kept steps n a i in
+    let g = over_net net kept steps in
+    let same : opened_report net logs steps ≡ (opened_over g kept).lines ∷ one.run_from g (opened_over g kept).world steps =
+    ap (λ (ls : List Report). ls ∷ lines_over net logs steps) k.opened
+    ∙ ap (λ (rs : List (List Report)). (started_over net kept).lines ∷ rs) (k.lines steps ∙ x.lines)
     ∙ ap (λ (t : Transition). t.lines ∷ one.run_from g t.world steps) x.opens in
-    subst (λ (rs : List (List Report)). TotallyOrderedOver g totals founds steps rs (told_in_order net totals rs)) (sym same) (ordered_over g totals founds steps x.tree z x.reopened x.steps_in apart there)
+    subst (λ (rs : List (List Report)). TotallyOrderedOver g totals kept steps rs (told_in_order net totals rs)) (sym same) (ordered_over g totals kept steps x.tree z x.reopened x.steps_in apart there)
 
-pub one_order_lanes : (net : Net) (totals : List ℕ) (lanes : List (List Record)) (steps : List Line) → OrderedOverLanes net totals lanes steps → OneOrderOverLanes net totals lanes steps
-one_order_lanes net totals lanes steps k =
-    let rs : List (List Report) = opened_report net lanes steps in
+pub one_order_lanes : (net : Net) (totals : List ℕ) (logs : List Log) (steps : List Line) → OrderedOverLanes net totals logs steps → OneOrderOverLanes net totals logs steps
+one_order_lanes net totals logs steps k =
+    let rs : List (List Report) = opened_report net logs steps in
     let told : List (List Report) = told_in_order net totals rs in
-    let g = over_net net (found_logs lanes) steps in
-    in_one_order g totals told (over_end g totals (found_logs lanes) steps rs told k)
+    let g = over_net net (kept_logs logs) steps in
+    in_one_order g totals told (over_end g totals (kept_logs logs) steps rs told k)
 
 -- of a server
-pub ordered_served_lanes : (net : Net) (totals : List ℕ) (lanes : List (List Record)) (steps : List Line) (arrivals : List Arrival) → IsNet net → IsSmall net → 1 ≤ net.quiet → 1 ≤ net.retry → AllFollow net.late lanes → StepsIn net steps → NumbersIn steps → AllByRecursion IsOfBytes arrivals
-    → IsDistinct totals → ((s : ℕ) → list_any (λ x. nat_eq x s) totals ≡ true → s < net.subscribers) → IsHonestRun arrivals (served net (numbers net.brokers) (whole_logs lanes) steps arrivals) → OrderedServedLanes net totals lanes steps arrivals
-ordered_served_lanes net totals lanes steps arrivals n small z r a i m fits apart there honest =
-    let e = served_lanes (seen net) net net.late lanes steps arrivals a in
-    let founds : List Log = found_logs lanes in
-    let here : IsHonestRun arrivals (served net (numbers net.brokers) founds steps arrivals) = subst (λ (rs : List (List Report)). IsHonestRun arrivals rs) e honest in
-    let x = served_as_one net founds steps arrivals n small z r (are_found net lanes small.late.few a) i m fits here in
-    let g = served_net net founds steps arrivals in
-    subst (λ (rs : List (List Report)). TotallyOrderedServed g totals founds steps arrivals rs (told_in_order net totals rs)) (sym (e ∙ x.reports))
-    (ordered_served g totals founds steps arrivals x.tree x.small z r x.reopened x.steps_in m fits apart there (subst (λ (rs : List (List Report)). IsHonestRun arrivals rs) x.reports here))
+pub ordered_served_lanes : (net : Net) (totals : List ℕ) (logs : List Log) (steps : List Line) (arrivals : List Arrival) → IsNet net → IsSmall net → 1 ≤ net.quiet → 1 ≤ net.retry → AreReopened net (kept_logs logs) → StepsIn net steps → NumbersIn steps → AllByRecursion IsOfBytes arrivals
+    → IsDistinct totals → ((s : ℕ) → list_any (λ x. nat_eq x s) totals ≡ true → s < net.subscribers) → IsHonestRun arrivals (served net (numbers net.brokers) logs steps arrivals) → OrderedServedLanes net totals logs steps arrivals
+ordered_served_lanes net totals logs steps arrivals n small z r a i m fits apart there honest =
+    let e = (opened_the_same (seen net) net (numbers net.brokers) logs).served_same steps arrivals in
+    let kept : List Log = kept_logs logs in
+    let here : IsHonestRun arrivals (served net (numbers net.brokers) kept steps arrivals) = subst (λ (rs : List (List Report)). IsHonestRun arrivals rs) e honest in
+    let x = served_as_one net kept steps arrivals n small z r a i m fits here in
+    let g = served_net net kept steps arrivals in
+    subst (λ (rs : List (List Report)). TotallyOrderedServed g totals kept steps arrivals rs (told_in_order net totals rs)) (sym (e ∙ x.reports))
+    (ordered_served g totals kept steps arrivals x.tree x.small z r x.reopened x.steps_in m fits apart there (subst (λ (rs : List (List Report)). IsHonestRun arrivals rs) x.reports here))
 
-pub one_order_served : (net : Net) (totals : List ℕ) (lanes : List (List Record)) (steps : List Line) (arrivals : List Arrival) → OrderedServedLanes net totals lanes steps arrivals → OneOrderServedLanes net totals lanes steps arrivals
-one_order_served net totals lanes steps arrivals k =
-    let rs : List (List Report) = served net (numbers net.brokers) (whole_logs lanes) steps arrivals in
+pub one_order_served : (net : Net) (totals : List ℕ) (logs : List Log) (steps : List Line) (arrivals : List Arrival) → OrderedServedLanes net totals logs steps arrivals → OneOrderServedLanes net totals logs steps arrivals
+one_order_served net totals logs steps arrivals k =
+    let rs : List (List Report) = served net (numbers net.brokers) logs steps arrivals in
     let told : List (List Report) = told_in_order net totals rs in
-    let g = lanes_net net lanes steps arrivals in
-    in_one_order g totals told (served_at_end g totals (found_logs lanes) steps arrivals rs told k)
+    let g = lanes_net net logs steps arrivals in
+    in_one_order g totals told (served_at_end g totals (kept_logs logs) steps arrivals rs told k)

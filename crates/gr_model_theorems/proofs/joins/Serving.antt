@@ -1,5 +1,5 @@
 -- What comes to a server, with joins: each arrival of an honest journal does the same as on the net of the last joins
-use Rattle.std.proofs.Common.{◌≡◌, ◌⊎◌, inl, inr, ⊎_elim, ℕ, ◌<◌, ◌≤◌, Bool, true, false, ◌&&◌, List, [], ◌∷◌, ◌++◌, filter, length, map, min, max, refl, sym, ap, ap₂, ◌∙◌, subst, Option, Some, None, Result, Ok, Err}
+use Rattle.std.proofs.Common.{◌≡◌, ◌⊎◌, inl, ⊎_elim, ℕ, ◌<◌, ◌≤◌, Bool, true, false, ◌&&◌, List, [], ◌∷◌, ◌++◌, filter, refl, sym, ap, ◌∙◌, subst, Option, Some, None, Result, Ok, Err}
 use Rattle.std.specs.Prelude.{nat_eq, nat_lt, if◌then◌else◌}
 use Rattle.std.specs.List.{AllByRecursion}
 use Rattle.std.proofs.lemmas.Bool.{and_parts, ltb-true}
@@ -21,16 +21,16 @@ use Rattle.gr_model.specs.declared.report.Report.{Report}
 use Rattle.gr_model.specs.declared.report.Report.TheVariants as line
 use Rattle.gr_model.specs.Net.{Net, with_wants, wants_with, numbers}
 use Rattle.gr_model.specs.Tree.{IsNet}
-use Rattle.gr_model.specs.Broker.{View, Log, seen}
-use Rattle.gr_model.specs.World.{World, Transition, view_of, log_of, unchanged, followed_by, in_turn, wake_all_by, publish_now_by, deliver_frame_by}
-use Rattle.gr_model.specs.Arrivals.{asks_publish, asks_join, Arrival, datagram, quiet, Publish, at_moment, joins_in, split_line, clash_line, least_clash, fits_broker, fault_number, publisher_of, takes_notes, left_after, takes_by, receives_by, notes_by, reads_by, answered_first_by, quieted_by, comes_by, show_hosted, served_from_by, arrived_by, Request}
+use Rattle.gr_model.specs.Broker.{View, seen}
+use Rattle.gr_model.specs.World.{World, Transition, view_of, unchanged, in_turn, wake_all_by, publish_now_by, deliver_frame_by}
+use Rattle.gr_model.specs.Arrivals.{asks_publish, asks_join, Arrival, datagram, quiet, Publish, at_moment, joins_in, split_line, clash_line, least_clash, fits_broker, fault_number, takes_notes, left_after, takes_by, receives_by, notes_by, answered_first_by, quieted_by, comes_by, show_hosted, served_from_by, arrived_by, Request}
 use Rattle.gr_model.specs.Headline.{History, history, is_sent}
 use Rattle.gr_model_calls.specs.OneNet as one
 use Rattle.gr_model_calls.specs.Fits.{WorldFits, FrameTrue, StepIn}
 use Rattle.gr_model_calls.proofs.runs.Worlds.{Each, wake_all_kept, publish_kept, join_kept}
 use Rattle.gr_model_calls.proofs.runs.Closed.{frame_at_ready}
 use Rattle.gr_model_calls.proofs.runs.Schedules.{clocked_fits, frame_at_true}
-use Rattle.gr_model_calls.proofs.runs.Seeing.{Back, Backs, Runs, Runs-same, Runs-after, in_turn_back, in_turn_runs, wake_all_back, wake_all_runs}
+use Rattle.gr_model_calls.proofs.runs.Seeing.{Back, Runs, Runs-same, Runs-after, in_turn_back, in_turn_runs, wake_all_back, wake_all_runs}
 use Rattle.gr_model_calls.proofs.joins.Growing.{AheadOf, growing}
 use Rattle.gr_model_calls.proofs.joins.SameCalls.{same_calls}
 use Rattle.gr_model_calls.proofs.joins.OneRun.{IsNet-with}

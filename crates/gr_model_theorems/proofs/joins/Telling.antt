@@ -12,7 +12,7 @@ use Rattle.gr_model.specs.declared.report.Report.{Report}
 use Rattle.gr_model.specs.Net.{Net, with_wants, wants_with, numbers}
 use Rattle.gr_model.specs.Tree.{IsNet}
 use Rattle.gr_model.specs.World.{World, Transition, log_of, show, next_by, run_from_by}
-use Rattle.gr_model.specs.Headline.{Recorded, History, history, history_after, records_after, record_of, recorded_net, Holds_from_by}
+use Rattle.gr_model.specs.Headline.{Recorded, History, history, history_after, records_after, record_of, recorded_net}
 use Rattle.gr_model.specs.Arrivals.{Arrival, Request, left_after, served_from_by, arrived_by}
 use Rattle.gr_model_calls.specs.OneNet as one
 use Rattle.gr_model_calls.specs.Truth.{Grows}
@@ -25,7 +25,7 @@ use Rattle.gr_model_theorems.specs.Served.{IsOfBytes, IsHonest, steps_at, as_lin
 use Rattle.gr_model_theorems.proofs.records.Recorded.{record_core}
 use Rattle.gr_model_theorems.proofs.headline.AfterSweeps.{holds_where_sweeps_reach}
 use Rattle.gr_model_theorems.proofs.headline.SecondReaches.{sweeps_reach}
-use Rattle.gr_model_theorems.proofs.server.Serving.{all_brokers, LeftIn, left_in, Ready, Turn, turn, still_honest, arrival_told, shown, shown_parts}
+use Rattle.gr_model_theorems.proofs.server.Serving.{all_brokers, LeftIn, left_in, Ready, turn, still_honest, arrival_told, shown, shown_parts}
 use Rattle.gr_model_theorems.proofs.joins.Owing.{RecordedAhead, RecordsUpto, ahead_from, holds_before}
 use Rattle.gr_model_theorems.proofs.joins.AsOne.{history_same}
 use Rattle.gr_model_theorems.proofs.joins.Always.{upto_after}

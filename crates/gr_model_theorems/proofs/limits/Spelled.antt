@@ -1,5 +1,5 @@
 -- Every tick and event of every world is within the limits of frames, so each frame that is sent has a spelling that fits into one
-use Rattle.std.proofs.Common.{◌≡◌, ℕ, suc, ◌≤◌, ◌<◌, ◌^◌, max, Bool, true, false, ◌&&◌, List, [], ◌∷◌, ◌++◌, map, length, set, get_or, refl, sym, subst, Option, Some, None, Ok, arith, length-append}
+use Rattle.std.proofs.Common.{◌≡◌, ℕ, suc, ◌-◌, ◌≤◌, ◌<◌, ◌^◌, max, Bool, true, false, ◌&&◌, List, [], ◌∷◌, ◌++◌, map, length, set, get_or, refl, subst, Option, Some, None, Ok, arith, length-append}
 use Rattle.std.specs.Prelude.{nat_eq, nat_le, nat_lt, if◌then◌else◌}
 use Rattle.std.specs.List.{AllByRecursion}
 use Rattle.std.proofs.lemmas.Bool.{and_parts, or_parts, or_from, leb-true, ltb-false}
@@ -7,7 +7,7 @@ use Rattle.gr_event.specs.declared.event.Event.{Event}
 use Rattle.gr_event.specs.Limits.{IsEvent}
 use Rattle.gr_event.specs.declared.limits.TheConstants.{MAX_JOINS}
 use Rattle.gr_event.specs.Joins.{Joins, has_joined, JoinsRise, JoinOnce, AreJoins}
-use Rattle.gr_publog.proofs.Joins.{room_first}
+use Rattle.gr_publog.proofs.Entering.{held_first}
 use Rattle.gr_know.specs.declared.values.K.TheVariants.{Q}
 use Rattle.gr_curio.specs.declared.values.Q3.TheVariants.{N}
 use Rattle.gr_frame.specs.declared.Body.{Body}
@@ -18,7 +18,7 @@ use Rattle.gr_frame.specs.Bytes.{frame_bytes, head_bytes, piece_head, runs_bytes
 use Rattle.gr_frame.specs.Decode.{known_form, wanted_form, frame_decoded}
 use Rattle.gr_frame.specs.Limits.{IsKnown, IsWanted, IsBody}
 use Rattle.gr_frame.proofs.Cutting.{known_sized, wanted_sized}
-use Rattle.gr_frame.proofs.Lists.{head_sized, none_are}
+use Rattle.gr_frame.proofs.Lists.{head_sized}
 use Rattle.gr_frame.proofs.Spelled.{spelled_decodes}
 use Rattle.gr_sched.specs.declared.step.Stop.{Stop}
 use Rattle.gr_sched.specs.declared.step.Step.{Step}
@@ -27,7 +27,7 @@ use Rattle.gr_sched.specs.declared.step.Line.{Line}
 use Rattle.gr_model.specs.declared.report.Report.TheVariants as line
 use Rattle.gr_model.specs.Net.{Net, is_late, not_empty, numbers}
 use Rattle.gr_model.specs.Broker.{Log, Outcome, max_tick, empty_log, with_event, is_kept, publish, joining, wake, receive, started}
-use Rattle.gr_model.specs.World.{World, Transition, blank_view, view_of, log_of, absorbed, unchanged, followed_by, in_turn, sweep_moment, frame_at, join_now_by, restarted, crash, opened_lines, start, show, deliver_frame_by, next_by, publish_now_by, publish_stopped_by, sweep_by, wake_for_by}
+use Rattle.gr_model.specs.World.{World, Transition, blank_view, view_of, log_of, absorbed, unchanged, followed_by, in_turn, sweep_moment, frame_at, join_now_by, restarted, crash, opened_lines, start, start_by, show, deliver_frame_by, next_by, publish_now_by, publish_stopped_by, sweep_by, wake_for_by}
 use Rattle.gr_model_calls.specs.OneNet.{wake_for, wake_all, deliver_frame, publish_now, sweep_for, sweep, join_now, publish_stopped, next, run_all}
 use Rattle.gr_model_calls.specs.Truth.{Facts}
 use Rattle.gr_model.specs.Tree.{IsNet}
@@ -106,7 +106,7 @@ body_in (body.Expect tick) h = h
 -- Parts of a world
 
 pub empty_in : {late : List ℕ} → length late ≤ MAX_JOINS → LogIn late empty_log
-empty_in {late} few = let first = room_first late few in record { settled = omega arith; cut = omega arith; events = tt; joins = none_are; room = record { few = first.few; room = first.room; last = first.last } }
+empty_in {late} few = record { settled = omega arith; cut = omega arith; events = tt; held = held_first late 0 few }
 
 blank_in : ViewIn blank_view
 blank_in = record { know = tt; wants = tt; asks = tt; horizon = omega arith; joins = omega arith }
@@ -127,7 +127,7 @@ absorbed_in net w b p o z i f c a = record {
   clock = a.clock;
   views = all_set (AllByRecursion ViewIn) w.views b (set (get_or w.views b []) p o.view) a.views (all_set ViewIn (get_or w.views b []) p o.view (row_in w b a) c.view);
   logs = logs_now;
-  frames = all_on IsSpelled w.frames o.frames a.frames (all_spelled net (absorbed w b p o).world b o.frames z (λ q. (all_get (LogIn net.late) (set w.logs p o.log) q empty_log logs_now (empty_in z.late.few)).joins) i (frames_back net (absorbed w b p o).world w.frames o.frames f.frames) c.frames);
+  frames = all_on IsSpelled w.frames o.frames a.frames (all_spelled net (absorbed w b p o).world b o.frames z (λ q. (all_get (LogIn net.late) (set w.logs p o.log) q empty_log logs_now (empty_in z.late.few)).held.joins) i (frames_back net (absorbed w b p o).world w.frames o.frames f.frames) c.frames);
 }
   where
     logs_now : AllByRecursion (LogIn net.late) (set w.logs p o.log)
@@ -206,7 +206,7 @@ publish_stopped_in net w k p number stop e n z f j is a = host_at (not_empty (ne
     tick = max (suc log.settled) w.clock
 
     kept : Bool
-    kept = is_kept log.gate stop.call stop.pick
+    kept = is_kept (log.size - 1) stop.call stop.pick
 
     logs : List Log
     logs = if kept then set w.logs p (with_event log tick e) else w.logs
@@ -277,7 +277,7 @@ run_in net w [] n z f i k a = a
 run_in net w (l ∷ ls) n z f i k a = run_in net (next net w l).world ls n z (next_kept net w l n f i.0).fits i.1 k.1 (next_in net w l n z f i.0 k.0 a)
 
 pub start_in : (net : Net) → length net.late ≤ MAX_JOINS → WorldIn net.late (start net)
-unfolding start
+unfolding start_by
 start_in net few = record {
   clock = omega arith;
   views = all_tabulated (AllByRecursion ViewIn) (λ b. map (λ p. started net p b empty_log) (numbers net.publishers)) (numbers net.brokers) (λ b. all_tabulated ViewIn (λ p. started net p b empty_log) (numbers net.publishers) (λ p. started_in net p b empty_log (empty_in few)));

@@ -1,8 +1,8 @@
 -- A broker's call keeps every tick and event within the limits, and what it sends is cut into frames that are short enough
-use Rattle.std.proofs.Common.{◌≡◌, ℕ, zero, suc, ◌+◌, ◌-◌, ◌≤◌, ◌<◌, ◌^◌, length, ap, sym, subst, min, max, Bool, true, false, ◌&&◌, ◌||◌, List, [], ◌∷◌, ◌++◌, map, set, get_or, refl, Option, Some, None, arith, le_refl, le_trans}
+use Rattle.std.proofs.Common.{◌≡◌, ℕ, zero, suc, ◌+◌, ◌-◌, ◌≤◌, ◌<◌, ◌^◌, length, ap, min, max, Bool, true, false, ◌&&◌, ◌||◌, List, [], ◌∷◌, ◌++◌, map, set, get_or, refl, Option, Some, None, arith, le_trans}
 use Rattle.std.specs.Prelude.{not, nat_eq, nat_le, nat_lt, if◌then◌else◌}
-use Rattle.std.specs.List.{AllByRecursion, list_any, filter}
-use Rattle.std.proofs.lemmas.Bool.{and_from, leb-true, ltb-true, lt-ltb, le-leb}
+use Rattle.std.specs.List.{AllByRecursion, list_any}
+use Rattle.std.proofs.lemmas.Bool.{and_from, leb-true, ltb-true}
 use Rattle.gr_event.specs.declared.event.Event.{Event}
 use Rattle.gr_event.specs.Event.{event_size}
 use Rattle.gr_event.specs.Limits.{IsEvent}
@@ -13,11 +13,10 @@ use Rattle.gr_know.specs.declared.values.K.TheVariants.{Q, S, D, F}
 use Rattle.gr_know.specs.Values.{Known, known_at, same_K, join_K, new_K, is_Q}
 use Rattle.gr_event.specs.Event.{same_event}
 use Rattle.gr_event.specs.declared.limits.TheConstants.{MAX_JOINS}
-use Rattle.gr_event.specs.Joins.{longer, Joins, has_joined, last_join_tick}
-use Rattle.gr_event.proofs.Joining.{joins_with}
-use Rattle.gr_publog.specs.declared.record.Record.TheVariants as entry
-use Rattle.gr_publog.specs.State.{Standing, stands_after, may_settle, may_enter, may_follow, HasRoom}
-use Rattle.gr_publog.proofs.Joins.{room_after, may_stand}
+use Rattle.gr_event.specs.declared.join.Join.{Join}
+use Rattle.gr_event.specs.Joins.{longer, Joins, has_joined}
+use Rattle.gr_publog.specs.State.{is_new}
+use Rattle.gr_publog.proofs.Entering.{held_up, held_more, may_stand}
 use Rattle.gr_curio.specs.declared.values.Q3.{Q3}
 use Rattle.gr_curio.specs.declared.values.Q3.TheVariants.{N, C, A}
 use Rattle.gr_curio.specs.declared.asks.Moment.{Moment}
@@ -31,9 +30,10 @@ use Rattle.gr_frame.specs.declared.Frame.{Frame}
 use Rattle.gr_frame.specs.Bytes.{head_size, known_run_size, wanted_run_size, cut_frames}
 use Rattle.gr_frame.specs.Limits.{IsKnown, IsWanted}
 use Rattle.gr_model.specs.Net.{Net, is_host, keeps_horizon, wanted_below, pass, numbers_from}
-use Rattle.gr_model.specs.Broker.{with_joins, with_join, joining, drops, View, Log, Outcome, max_tick, head, know_frames, want_frames, expect_frame, up_frames, all_points, is_consolidated_by, consolidated, finished, forgotten, is_F, open_asks, kept_view_below, kept_view, horizon_after, new_ticks, event_ticks, pass_points, passed, forward, still_wanted, forward_frames, forward_wants, learn, due, noted, upward, acknowledged, answer, answers, curious, stored, curiosity, asking, wanted_at_wake, wake_below, covers, expect_frames, expect, any_C, with_event, with_mark, with_cut, event_at, event_points, log_at, log_know, silence, publish, done_upto, cutting, marking, wake_host, wake, started, place_of, clashes, receive}
-use Rattle.gr_model_theorems.specs.Spelled.{RunsIn, IsMoment, ViewIn, standing_in, LogIn}
+use Rattle.gr_model.specs.Broker.{with_joins, with_join, joining, drops, View, Log, Outcome, max_tick, head, know_frames, want_frames, expect_frame, up_frames, all_points, is_consolidated_by, consolidated, finished, forgotten, is_F, open_asks, kept_view_below, kept_view, horizon_after, new_ticks, event_ticks, pass_points, passed, forward, still_wanted, forward_frames, forward_wants, learn, due, noted, upward, acknowledged, answer, answers, curious, stored, curiosity, asking, wanted_at_wake, wake_below, covers, expect_frames, expect, any_C, with_event, with_mark, past, event_at, event_points, log_at, log_know, silence, publish, done_upto, cutting, marking, wake_host, wake, started, place_of, receive}
+use Rattle.gr_model_theorems.specs.Spelled.{RunsIn, IsMoment, ViewIn, LogIn}
 use Rattle.gr_model_calls.proofs.calls.HostCases.{publish_cases, marking_cases, joining_cases, news_of}
+use Rattle.gr_model_calls.proofs.calls.Cutting.{cut_cases, cut_at, cutting_cases}
 use Rattle.gr_model_theorems.proofs.limits.SpelledRuns.{all_on, all_set, all_get, all_tabulated, AreUpto, points_upto, all_points_upto, value_fits, tabulate_in, both_upto, zip_in, first_bottom_upto, top_upto, forgotten_in, IsPartIn, parts_in}
 
 -- Frames that a broker sends
@@ -366,17 +366,9 @@ silence_in first last rest h a = go (nat_le first last) refl
     go true e = (record { first = omega (arith, leb-true first last e, h); last = h; value = tt }, a)
     go false e = a
 
--- what is settled later leaves as much room
-settled_room : {late : List ℕ} (log new : Log) → log.settled ≤ new.settled → new.joins ≡ log.joins → HasRoom (standing_in late log) → HasRoom (standing_in late new)
-settled_room {late} log new more same h = record {
-  few = h.few;
-  room = subst (λ (js : Joins). length js + length (filter (λ x. not (has_joined js x)) late) ≤ length late) (sym same) h.room;
-  last = le_trans (subst (λ (js : Joins). last_join_tick js ≤ log.settled) (sym same) h.last) more;
-}
-
 -- a log with a further event
 pub with_event_in : {late : List ℕ} (log : Log) (tick : ℕ) (e : Event) → log.settled ≤ tick → tick ≤ max_tick → IsEvent e → LogIn late log → LogIn late (with_event log tick e)
-with_event_in log tick e past h k l = record { settled = h; cut = l.cut; events = all_on (λ x. (x.0 ≤ max_tick) × IsEvent x.1) log.events ((tick, e) ∷ []) l.events ((h, k), tt); joins = l.joins; room = settled_room log (with_event log tick e) past refl l.room }
+with_event_in {late} log tick e past h k l = record { settled = h; cut = l.cut; events = all_on (λ x. (x.0 ≤ max_tick) × IsEvent x.1) log.events ((tick, e) ∷ []) l.events ((h, k), tt); held = held_up late log.joins log.settled tick past l.held }
 
 -- a publish of an event within the limits leaves and sends only what is within them
 pub publish_in : {late : List ℕ} (net : Net) (p b now number : ℕ) (e : Event) (v : View) (log : Log) → IsEvent e → ViewIn v → LogIn late log → CallIn late b (publish net p b now number e v log)
@@ -393,23 +385,19 @@ publish_in {late} net p b now number e v log k a l =
 marking_in : {late : List ℕ} (net : Net) (p b now : ℕ) (v : View) (log : Log) → now ≤ max_tick → ViewIn v → LogIn late log → CallIn late b (marking net p b now v log)
 marking_in {late} net p b now v log h a l =
     marking_cases net p b now v log (CallIn late b)
-    (λ e. learn_in net p b (silence (suc log.settled) now []) v (with_mark log now) (silence_in (suc log.settled) now [] h tt) a (record { settled = h; cut = l.cut; events = l.events; joins = l.joins; room = settled_room log (with_mark log now) (omega (arith, leb-true (log.settled + net.quiet) now e)) refl l.room }))
+    (λ e. learn_in net p b (silence (suc log.settled) now []) v (with_mark log now) (silence_in (suc log.settled) now [] h tt) a (record { settled = h; cut = l.cut; events = l.events; held = held_up late log.joins log.settled now (omega (arith, leb-true (log.settled + net.quiet) now e)) l.held }))
     (λ e. record { view = a; log = l; frames = tt })
 
 -- a log with a further join, of a subscriber that may join
 pub with_join_in : {late : List ℕ} (log : Log) (tick s : ℕ) → has_joined log.joins s ≡ false → list_any (λ x. nat_eq x s) late ≡ true → s < 2 ^ 16 → log.settled < tick → tick ≤ max_tick → LogIn late log → LogIn late (with_join log tick s)
 with_join_in {late} log tick s fresh among small past upto l =
-    let here : Standing = standing_in late log in
-    let settles : may_settle here.state tick ≡ true = and_from (nat_lt log.settled tick) (nat_le tick max_tick) (lt-ltb log.settled tick past) (le-leb tick max_tick upto) in
-    let enters : may_enter here s ≡ true = and_from (list_any (λ x. nat_eq x s) late) (not (has_joined log.joins s)) among (ap not fresh) in
-    let follows : may_follow here (entry.Join tick s) ≡ true = and_from (may_settle here.state tick) (may_enter here s) settles enters in
-    let after : HasRoom (stands_after here (entry.Join tick s)) = room_after here (entry.Join tick s) l.room follows in
+    let j : Join = record { subscriber = s; tick = tick } in
+    let enters : is_new late log.joins s ≡ true = and_from (list_any (λ x. nat_eq x s) late) (not (has_joined log.joins s)) among (ap not fresh) in
     record {
       settled = upto;
       cut = l.cut;
       events = l.events;
-      joins = joins_with log.joins (record { subscriber = s; tick = tick }) l.joins (may_stand here tick s l.room follows) small;
-      room = record { few = after.few; room = after.room; last = after.last };
+      held = held_more late log.joins j log.settled tick l.held enters (may_stand late log.joins j log.settled l.held enters past upto) small (omega (arith, past)) (omega arith);
     }
 
 -- a join of a subscriber that may join leaves and sends only what is within the limits
@@ -425,24 +413,36 @@ joining_in {late} net p b now s v log among small a l =
     learned e x =
         let k = with_join_in log tick s e among small (omega arith) x l in
         learn_in net p b (silence (suc log.settled) tick []) (with_joins v (with_join log tick s).joins) (with_join log tick s) (silence_in (suc log.settled) tick [] x tt)
-        (record { know = a.know; wants = a.wants; asks = a.asks; horizon = a.horizon; joins = k.joins.few }) k
+        (record { know = a.know; wants = a.wants; asks = a.asks; horizon = a.horizon; joins = k.held.joins.few }) k
 
 least_upto : (a b : ℕ) → min a b ≤ a
 least_upto a b = omega arith
 
-cutting_in : {late : List ℕ} (net : Net) (p b : ℕ) (v : View) (log : Log) → LogIn late log → LogIn late (cutting net p b v log)
-unfolding cutting done_upto
-cutting_in {late} net p b v log l = go (nat_lt log.cut upto)
+-- what a cut leaves is what was there
+past_in : (t : ℕ) (xs : List (ℕ × Event)) → AllByRecursion (λ x. (x.0 ≤ max_tick) × IsEvent x.1) xs → AllByRecursion (λ x. (x.0 ≤ max_tick) × IsEvent x.1) (past t xs)
+past_in t [] a = tt
+past_in t (x ∷ xs) a = go (nat_lt t x.0) (past_in t xs a.1)
   where
-    done : Wanted
-    done = consolidated (keeps_horizon net p b) v.horizon v.wants
+    go : (b : Bool) → AllByRecursion (λ x. (x.0 ≤ max_tick) × IsEvent x.1) (past t xs) → AllByRecursion (λ x. (x.0 ≤ max_tick) × IsEvent x.1) (if b then x ∷ past t xs else past t xs)
+    go true h = (a.0, h)
+    go false h = h
 
+kept_in : (q : Bool) (t : ℕ) (xs : List (ℕ × Event)) → AllByRecursion (λ x. (x.0 ≤ max_tick) × IsEvent x.1) xs → AllByRecursion (λ x. (x.0 ≤ max_tick) × IsEvent x.1) (if q then past t xs else xs)
+kept_in true t xs a = past_in t xs a
+kept_in false t xs a = a
+
+cutting_in : {late : List ℕ} (net : Net) (p b : ℕ) (v : View) (log : Log) → LogIn late log → LogIn late (cutting net p b v log)
+unfolding done_upto
+cutting_in {late} net p b v log l = cutting_cases net p b v log (LogIn late) l (λ x. cut_cases net.reclaim log upto (LogIn late) (record { settled = l.settled; cut = low; events = left; held = l.held }) (record { settled = l.settled; cut = low; events = left; held = l.held }))
+  where
     upto : ℕ
-    upto = done_upto done log.settled
+    upto = cut_at net p b v log
 
-    go : (q : Bool) → LogIn late (if q then with_cut log upto else log)
-    go true = record { settled = l.settled; cut = le_trans (least_upto log.settled (first_bottom_from done 1 - 1)) l.settled; events = l.events; joins = l.joins; room = settled_room log (with_cut log upto) (le_refl log.settled) refl l.room }
-    go false = l
+    low : upto ≤ max_tick
+    low = le_trans (least_upto log.settled (first_bottom_from (consolidated (keeps_horizon net p b) v.horizon v.wants) 1 - 1)) l.settled
+
+    left : AllByRecursion (λ x. (x.0 ≤ max_tick) × IsEvent x.1) (if log.forgets then past upto log.events else log.events)
+    left = kept_in log.forgets upto log.events l.events
 
 wake_host_in : {late : List ℕ} (net : Net) (p b now : ℕ) (v : View) (log : Log) → now ≤ max_tick → ViewIn v → LogIn late log → CallIn late b (wake_host net p b now v log)
 unfolding wake_host
@@ -523,7 +523,7 @@ unfolding started
 started_in net p b log l = record { know = go (is_host net p b); wants = all_tabulated (RunsIn IsWanted) (λ _. []) (net.children p b) (λ c. tt); asks = tt; horizon = omega arith; joins = few (is_host net p b) }
   where
     few : (q : Bool) → length (if q then log.joins else []) ≤ MAX_JOINS
-    few true = l.joins.few
+    few true = l.held.joins.few
     few false = omega arith
 
     go : (q : Bool) → RunsIn IsKnown (if q then log_know log else [])

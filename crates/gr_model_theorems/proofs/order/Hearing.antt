@@ -1,23 +1,21 @@
 -- Where no line of a subscriber is passed over, what it heard is what it got, and its merge stands at its last horizons
-use Rattle.std.proofs.Common.{◌≡◌, ◌↔◌, ◌⊎◌, inl, inr, ℕ, zero, suc, ◌+◌, ◌<◌, ◌≤◌, Bool, true, false, ◌&&◌, cond, if◌then◌else◌, List, [], ◌∷◌, ◌++◌, length, map, get_or, set, replicate, refl, sym, ap, ap₂, ◌∙◌, subst, arith, append-nil, append_assoc, eq-eqb, ne_eqb, length-set}
+use Rattle.std.proofs.Common.{◌≡◌, ◌↔◌, ◌⊎◌, inl, inr, ℕ, zero, suc, ◌+◌, ◌<◌, Bool, true, false, ◌&&◌, if◌then◌else◌, List, [], ◌∷◌, ◌++◌, length, map, get_or, set, refl, sym, ap, ap₂, ◌∙◌, subst, arith, eq-eqb, length-set}
 use Rattle.std.specs.Prelude.{nat_eq, nat_lt, nat_le, flat_map}
-use Rattle.std.specs.List.{Contains, filter, list_any}
+use Rattle.std.specs.List.{Contains}
 use Rattle.std.proofs.lemmas.Grind.{flat_map-append}
-use Rattle.std.proofs.lemmas.Bool.{and_parts, and_from, cases_Bool, cases_eq, eqb-true, ltb-true, leb-true, le-leb, true≢false}
+use Rattle.std.proofs.lemmas.Bool.{and_parts, eqb-true, ltb-true, true≢false}
 use Rattle.std.proofs.lemmas.List.{get_or-set_same, get_or-set_other, get_or-replicate, length-replicate}
 use Rattle.std.proofs.lemmas.List.Elements.{Contains-append_left, Contains-append_right, Contains-append_cases, Contains-push_cases}
 use Rattle.gr_event.specs.declared.event.Event.{Event}
 use Rattle.gr_order.specs.declared.item.Item.{Item}
-use Rattle.gr_order.specs.Merge.{MergeView, fresh, least_of, least_horizon, with_item, with_horizon, without_ready}
-use Rattle.gr_order.specs.Law.{IsMerged}
+use Rattle.gr_order.specs.Merge.{least_of, least_horizon, with_item, with_horizon}
 use Rattle.gr_model.specs.declared.report.Report.{Report}
 use Rattle.gr_model.specs.declared.report.Report.TheVariants as line
-use Rattle.gr_model.specs.Net.{Net, numbers, numbers_from}
-use Rattle.gr_model.specs.Headline.{History, expected, last_horizon, delivered_events, record_of}
-use Rattle.gr_model.specs.Orders.{Order, Held, Said, event_of, horizon_of, nothing, said_of, got, moved, said, fresh_order, ordered_steps}
-use Rattle.gr_model.specs.Ordered.{IsMergedOf, heard_upto, items_told}
+use Rattle.gr_model.specs.Net.{numbers, numbers_from}
+use Rattle.gr_model.specs.Headline.{last_horizon, delivered_events}
+use Rattle.gr_model.specs.Orders.{Held, Said, event_of, horizon_of, nothing, said_of, got, moved, said}
 use Rattle.gr_model_calls.proofs.calls.Telling.{last_horizon-append}
-use Rattle.gr_model_theorems.proofs.order.Told.{brought, item, is_past, is_next, brings, brings_all, said_all, rested, end, heard_in, begun, each_is_merged}
+use Rattle.gr_model_theorems.proofs.order.Told.{brought, item, is_past, is_next, brings, brings_all, said_all, rested, end, heard_in, begun}
 
 -- no line of this subscriber is passed over
 abbrev pub IsHeard : ℕ → Held → Said → Type 0

@@ -1,11 +1,11 @@
 -- What a subscriber is told in its one list, where no line of it is passed over, is all that it is to have of every publisher up to where it has heard them all
-use Rattle.std.proofs.Common.{◌≡◌, ◌↔◌, inl, inr, ℕ, zero, suc, ◌+◌, ◌<◌, ◌≤◌, Bool, true, false, ◌&&◌, cond, List, [], ◌∷◌, ◌++◌, length, map, get_or, refl, sym, ap, ◌∙◌, subst, arith}
-use Rattle.std.specs.Prelude.{nat_eq, nat_le, flat_map}
+use Rattle.std.proofs.Common.{◌≡◌, ◌↔◌, inl, inr, ℕ, zero, suc, ◌+◌, ◌<◌, ◌≤◌, Bool, true, false, ◌&&◌, cond, List, [], ◌∷◌, length, map, get_or, refl, sym, ap, ◌∙◌, subst, arith}
+use Rattle.std.specs.Prelude.{nat_eq, nat_le}
 use Rattle.std.specs.List.{Contains, filter, list_any}
 use Rattle.std.proofs.lemmas.Bool.{and_parts, and_from, leb-true, le-leb, true≢false}
 use Rattle.gr_event.specs.declared.event.Event.{Event}
 use Rattle.gr_order.specs.declared.item.Item.{Item}
-use Rattle.gr_order.specs.Merge.{least_of, least_horizon}
+use Rattle.gr_order.specs.Merge.{least_horizon}
 use Rattle.gr_order.specs.Law.{IsMerged}
 use Rattle.gr_order.proofs.Horizons.{least_at}
 use Rattle.gr_model.specs.declared.report.Report.{Report}

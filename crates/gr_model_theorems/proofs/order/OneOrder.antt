@@ -6,7 +6,7 @@ use Rattle.std.proofs.lemmas.Grind.{flat_map-append}
 use Rattle.std.proofs.lemmas.Bool.{cases_lt}
 use Rattle.gr_event.specs.declared.event.Event.{Event}
 use Rattle.gr_order.specs.declared.item.Item.{Item}
-use Rattle.gr_order.specs.Law.{IsMerged, Begins}
+use Rattle.gr_order.specs.Law.{Begins}
 use Rattle.gr_order.proofs.Prefix.{begins}
 use Rattle.gr_sched.specs.declared.step.Line.{Line}
 use Rattle.gr_model.specs.declared.report.Report.{Report}

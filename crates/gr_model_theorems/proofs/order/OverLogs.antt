@@ -1,8 +1,7 @@
 -- What each list over all publishers says of a schedule over old logs: the opening's lines are heard like those of a step
-use Rattle.std.proofs.Common.{length, ◌≡◌, ℕ, ◌≤◌, ◌<◌, true, List, [], ◌∷◌, sym, ap, ◌∙◌, subst}
+use Rattle.std.proofs.Common.{◌≡◌, ℕ, ◌≤◌, ◌<◌, true, List, [], ◌∷◌}
 use Rattle.std.specs.Prelude.{nat_eq}
 use Rattle.std.specs.List.{list_any}
-use Rattle.gr_publog.specs.declared.record.Record.{Record}
 use Rattle.gr_sched.specs.declared.step.Line.{Line}
 use Rattle.gr_model.specs.declared.report.Report.{Report}
 use Rattle.gr_model.specs.Net.{Net}
@@ -12,19 +11,15 @@ use Rattle.gr_model.specs.World.{Transition}
 use Rattle.gr_model_calls.specs.OneNet.{run_from}
 use Rattle.gr_model.specs.Opening.{begin_over}
 use Rattle.gr_model.specs.Orders.{Order, fed, ordered, without_ordered, orders_over, ordered_steps}
-use Rattle.gr_model.specs.Ordered.{OneOrder}
 use Rattle.gr_model_calls.specs.Fits.{StepsIn}
 use Rattle.gr_model_theorems.specs.Found.{AreReopened}
 use Rattle.gr_model_theorems.specs.Statements.{opened_over}
-use Rattle.gr_model_theorems.specs.Lanes.{AllFollow, whole_logs, found_logs}
-use Rattle.gr_model_theorems.specs.OrderedServed.{told_in_order, opened_report, TotallyOrderedOver, OrderedOverLanes}
+use Rattle.gr_model_theorems.specs.OrderedServed.{told_in_order, TotallyOrderedOver}
 use Rattle.gr_model_theorems.proofs.server.OverLogs.{opened_whole}
 use Rattle.gr_model_theorems.proofs.server.ServedOver.{begun_lines}
-use Rattle.gr_model_theorems.proofs.server.Lanes.{are_found, opened_same, lines_same}
 use Rattle.gr_model_theorems.proofs.order.Hearing.{joined}
 use Rattle.gr_model_theorems.proofs.order.Always.{from_here, begins}
-use Rattle.gr_event.specs.declared.limits.TheConstants.{MAX_JOINS}
-use Rattle.gr_model_theorems.proofs.order.OneOrder.{AtEnd, last_step, in_one_order}
+use Rattle.gr_model_theorems.proofs.order.OneOrder.{AtEnd, last_step}
 
 -- from an opening over logs that were found
 pub ordered_over : (net : Net) (totals : List ℕ) (logs : List Log) (steps : List Line) → IsNet net → 1 ≤ net.quiet → AreReopened net logs → StepsIn net steps → IsDistinct totals → ((s : ℕ) → list_any (λ x. nat_eq x s) totals ≡ true → s < net.subscribers)

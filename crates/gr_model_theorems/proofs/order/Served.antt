@@ -11,7 +11,6 @@ use Rattle.gr_note.specs.declared.note.Note.{Note}
 use Rattle.gr_note.specs.declared.fault.NoteFault.{NoteFault}
 use Rattle.gr_note.specs.Bytes.{begins_note}
 use Rattle.gr_note.specs.Decode.{note_decoded}
-use Rattle.gr_publog.specs.declared.record.Record.{Record}
 use Rattle.gr_sched.specs.declared.step.Line.{Line}
 use Rattle.gr_model.specs.declared.report.Report.{Report}
 use Rattle.gr_model.specs.Net.{Net, numbers}
@@ -28,16 +27,14 @@ use Rattle.gr_model_theorems.specs.Found.{AreReopened}
 use Rattle.gr_model_theorems.specs.Spelled.{IsInLimits, NumbersIn, IsSpelled, WorldIn}
 use Rattle.gr_model_theorems.specs.Served.{IsOfBytes, IsHonest, IsHonestRun, steps_of_arrival, dropped_as, unsubmitted_as, note_dropped_as, dropped_line}
 use Rattle.gr_model_theorems.specs.Statements.{opened_over}
-use Rattle.gr_model_theorems.specs.Lanes.{AllFollow, whole_logs, found_logs}
-use Rattle.gr_model_theorems.specs.OrderedServed.{told_in_order, OrderedServed_from, TotallyOrderedServed, OrderedServedLanes, OneOrderServedLanes}
+use Rattle.gr_model_theorems.specs.OrderedServed.{told_in_order, OrderedServed_from, TotallyOrderedServed}
 use Rattle.gr_model_theorems.proofs.limits.Spelled.{IsSmall, next_in}
 use Rattle.gr_model_theorems.proofs.records.Recorded.{runs}
 use Rattle.gr_model_theorems.proofs.server.Serving.{LeftIn, left_in, requests_are_in, all_brokers, Ready, turn, still_honest, arrival_holds}
 use Rattle.gr_model_theorems.proofs.server.ServedOver.{opened_ready, begun_lines}
-use Rattle.gr_model_theorems.proofs.server.Lanes.{are_found, served_lanes}
 use Rattle.gr_model_theorems.proofs.order.Hearing.{joined}
 use Rattle.gr_model_theorems.proofs.order.Always.{Come, goes_on, is_ordered, begins}
-use Rattle.gr_model_theorems.proofs.order.OneOrder.{AtEnd, in_one_order}
+use Rattle.gr_model_theorems.proofs.order.OneOrder.{AtEnd}
 use Rattle.gr_model_theorems.proofs.order.Unheard.{AreUnheard, fed_unheard, fed_append, shown_unheard, rested_ready}
 
 -- no list hears that a datagram was dropped

@@ -1,14 +1,13 @@
 -- Steady lines are all heard
-use Rattle.std.proofs.Common.{◌≡◌, inl, inr, ℕ, ◌<◌, ◌≤◌, Bool, true, false, ◌&&◌, if◌then◌else◌, List, [], ◌∷◌, ◌++◌, length, get_or, set, replicate, refl, sym, ap, ap₂, ◌∙◌, subst, arith, eq-eqb, ne_eqb, length-set}
-use Rattle.std.specs.Prelude.{nat_eq, nat_lt, nat_le, flat_map, IsTrue}
-use Rattle.std.proofs.lemmas.Bool.{and_from, cases_lt, cases_eq, lt-ltb, le-leb, eqb-true, true≢false}
+use Rattle.std.proofs.Common.{◌≡◌, inl, inr, ℕ, ◌<◌, ◌≤◌, Bool, true, false, ◌&&◌, if◌then◌else◌, List, [], ◌∷◌, ◌++◌, length, get_or, set, refl, sym, ap, ap₂, ◌∙◌, subst, arith, eq-eqb, length-set}
+use Rattle.std.specs.Prelude.{nat_eq, nat_lt, nat_le, IsTrue}
+use Rattle.std.proofs.lemmas.Bool.{and_from, cases_lt, lt-ltb, le-leb, eqb-true, true≢false}
 use Rattle.std.proofs.lemmas.List.{get_or-set_same, get_or-set_other, get_or-replicate, length-replicate}
 use Rattle.gr_event.specs.declared.event.Event.{Event}
 use Rattle.gr_order.specs.Merge.{with_item, with_horizon}
 use Rattle.gr_model.specs.declared.report.Report.{Report}
 use Rattle.gr_model.specs.declared.report.Report.TheVariants as line
-use Rattle.gr_model.specs.Headline.{delivered_events}
-use Rattle.gr_model.specs.Orders.{Held, Said, event_of, horizon_of, nothing, said_of, got, moved, said}
+use Rattle.gr_model.specs.Orders.{Held, event_of, horizon_of, said_of, got, moved, said}
 use Rattle.gr_model_calls.specs.Steady.{Steady}
 use Rattle.gr_model_theorems.proofs.order.Told.{is_past, is_next, said_all, rested, begun, item}
 use Rattle.gr_model_theorems.proofs.order.Hearing.{IsHeard, AllHeard, NonePassed, joined}

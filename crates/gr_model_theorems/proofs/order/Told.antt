@@ -1,5 +1,5 @@
 -- What is told of one subscriber, step by step, is one list: all events that were heard up to its least horizon, rising
-use Rattle.std.proofs.Common.{◌≡◌, ℕ, ◌<◌, ◌≤◌, Bool, true, false, ◌&&◌, ◌||◌, cond, if◌then◌else◌, List, [], ◌∷◌, ◌++◌, length, map, get_or, set, replicate, refl, sym, ap, ap₂, ◌∙◌, subst, arith, append-nil, append_assoc, inl, inr, ◌⊎◌, eq-eqb}
+use Rattle.std.proofs.Common.{◌≡◌, ℕ, ◌<◌, ◌≤◌, Bool, true, false, ◌&&◌, ◌||◌, cond, if◌then◌else◌, List, [], ◌∷◌, ◌++◌, length, map, get_or, set, replicate, refl, sym, ap, ap₂, ◌∙◌, subst, arith, append-nil, append_assoc, inl, inr, ◌⊎◌}
 use Rattle.std.specs.Prelude.{nat_eq, nat_lt, nat_le, flat_map}
 use Rattle.std.specs.List.{AllByRecursion, list_any}
 use Rattle.std.proofs.lemmas.Grind.{flat_map-append}
@@ -13,7 +13,7 @@ use Rattle.gr_order.proofs.Placing.{Each, none_up_to}
 use Rattle.gr_order.proofs.Following.{Follows, follows_fresh, follows_take, follows_advance, follows_ready, merged}
 use Rattle.gr_model.specs.declared.report.Report.{Report}
 use Rattle.gr_model.specs.Tree.{IsDistinct}
-use Rattle.gr_model.specs.Orders.{Order, Held, Said, event_of, horizon_of, nothing, said_of, got, moved, said, held, heard, heard_all, fed, ordered_line, ordered_in, ordered, rested as rested_order, without_ordered, ordered_steps, fresh_order, IsOrder}
+use Rattle.gr_model.specs.Orders.{Order, Held, Said, event_of, horizon_of, nothing, said_of, got, moved, said, held, heard, heard_all, fed, ordered_line, ordered_in, ordered, without_ordered, ordered_steps, fresh_order, IsOrder}
 use Rattle.gr_model.specs.Ordered.{ordered_item, ordered_items, items_told}
 use Rattle.gr_model.proofs.Ordering.{may_take, taken_fits, may_advance, moved_fits, rested_fits}
 

@@ -1,5 +1,5 @@
 -- The doubt lines of each step are those of a show, place by place
-use Rattle.std.proofs.Common.{◌≡◌, ℕ, suc, max, Bool, true, false, ◌&&◌, List, [], ◌∷◌, ◌++◌, map, length, set, refl, ap, ap₂, ◌∙◌, Option, Some, None}
+use Rattle.std.proofs.Common.{◌≡◌, ℕ, suc, max, Bool, true, false, ◌&&◌, List, [], ◌∷◌, ◌-◌, ◌++◌, map, length, set, refl, ap, ap₂, ◌∙◌, Option, Some, None}
 use Rattle.std.specs.Prelude.{nat_eq, nat_le, nat_lt, if◌then◌else◌, flat_map, filter, get_or}
 use Rattle.gr_event.specs.Joins.{Joins, longer}
 use Rattle.gr_event.specs.declared.event.Event.{Event}
@@ -14,7 +14,7 @@ use Rattle.gr_model.specs.declared.report.Report.{Report}
 use Rattle.gr_model.specs.declared.report.Report.TheVariants as line
 use Rattle.gr_know.specs.Values.{Known}
 use Rattle.gr_model.specs.Net.{Net, is_host, keeps_horizon, numbers, not_empty}
-use Rattle.gr_model.specs.Broker.{joining, with_joins, drops, View, Log, Outcome, empty_log, is_kept, delivery_lines, got_line, learn, publish, marking, cutting, wake, wake_host, wake_below, asking, curiosity, expect, receive, clashes, place_of, with_event, max_tick}
+use Rattle.gr_model.specs.Broker.{joining, with_joins, drops, View, Log, Outcome, empty_log, is_kept, delivery_lines, got_line, learn, publish, marking, cutting, wake, wake_host, wake_below, asking, curiosity, expect, receive, place_of, with_event, max_tick}
 use Rattle.gr_model.specs.World.{join_now_by, World, Transition, view_of, log_of, absorbed, unchanged, followed_by, in_turn, sent_line, sent_lines, frame_at, restarted, crash, sweep_moment, show, opened_lines, kept_events, deliver_frame_by, next_by, publish_now_by, publish_stopped_by, sweep_by, wake_for_by}
 use Rattle.gr_model_calls.specs.OneNet.{join_now, wake_for, wake_all, deliver_frame, publish_now, publish_stopped, sweep_for, sweep, next}
 use Rattle.gr_frame.specs.Bytes.{frame_bytes}
@@ -24,6 +24,7 @@ use Rattle.gr_model_calls.specs.Fits.{WorldFits, StepIn}
 use Rattle.gr_model_calls.proofs.calls.HostCases.{joining_cases, publish_cases, marking_cases}
 use Rattle.gr_model_calls.proofs.runs.Schedules.{clocked_fits}
 use Rattle.gr_model_calls.proofs.runs.Chains.{Chains, wake_all_chain, sweeps_chain}
+use Rattle.gr_model_theorems.proofs.records.RecordLines.{host_lines}
 
 -- no doubt line
 abbrev pub Plain : List Report → Type 0
@@ -107,14 +108,20 @@ wake_plain net p b now v log = go (is_host net p b)
     new : Log
     new = cutting net p b o.view o.log
 
-    front : (c d : Bool) → Plain ((if c then line.Mark p now ∷ [] else []) ++ (if d then line.Cut p new.cut ∷ [] else []))
-    front true true = tt
-    front true false = tt
-    front false true = tt
-    front false false = tt
+    front : (c d e : Bool) → Plain (host_lines p now new.cut new.generation c d e)
+    front true true true = tt
+    front true true false = tt
+    front true false e = tt
+    front false true true = tt
+    front false true false = tt
+    front false false e = tt
 
     go : (q : Bool) → Plain (let u : Outcome = elim q [ true ↦ wake_host net p b now v log | false ↦ wake_below net p b now v log ] in u.lines)
-    go true = Plain-append ((if nat_lt log.settled o.log.settled then line.Mark p now ∷ [] else []) ++ (if nat_lt o.log.cut new.cut then line.Cut p new.cut ∷ [] else [])) o.lines (front (nat_lt log.settled o.log.settled) (nat_lt o.log.cut new.cut)) (marking_plain net p b now v log)
+    go true =
+        let c = nat_lt log.settled o.log.settled in
+        let d = nat_lt o.log.cut new.cut in
+        let e = nat_lt o.log.generation new.generation in
+        Plain-append (host_lines p now new.cut new.generation c d e) o.lines (front c d e) (marking_plain net p b now v log)
     go false = tt
 
 absorbed_plain : (w : World) (b p : ℕ) (o : Outcome) → Plain o.lines → Plain (absorbed w b p o).lines
@@ -166,7 +173,7 @@ crash_plain net w b = opened_plain net w.logs b
 
 stopped_plain : (net : Net) (w : World) (k p number : ℕ) (stop : Stop) (e : Event) → Plain (publish_stopped net w k p number stop e).lines
 unfolding publish_stopped_by
-stopped_plain net w k p number stop e = go (not_empty (net.subscribers_at (net.host p))) (nat_eq number (suc log.last) && nat_le tick max_tick) (is_kept log.gate stop.call stop.pick)
+stopped_plain net w k p number stop e = go (not_empty (net.subscribers_at (net.host p))) (nat_eq number (suc log.last) && nat_le tick max_tick) (is_kept (log.size - 1) stop.call stop.pick)
   where
     log : Log
     log = log_of w p

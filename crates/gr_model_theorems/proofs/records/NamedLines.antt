@@ -1,5 +1,5 @@
 -- The cut and horizon lines of each step name publishers and subscribers of the topology, and its doubt lines say the horizons
-use Rattle.std.proofs.Common.{◌≡◌, ◌<◌, subst, sym, arith, ℕ, suc, max, Bool, true, false, ◌&&◌, List, [], ◌∷◌, ◌++◌, map, length, set, refl, Option, Some, None}
+use Rattle.std.proofs.Common.{◌≡◌, ◌<◌, subst, sym, arith, ℕ, suc, max, Bool, true, false, ◌&&◌, List, [], ◌∷◌, ◌-◌, ◌++◌, map, length, set, refl, Option, Some, None}
 use Rattle.std.specs.Prelude.{nat_eq, nat_le, nat_lt, if◌then◌else◌, flat_map, filter, get_or}
 use Rattle.gr_event.specs.Joins.{Joins, longer}
 use Rattle.gr_event.specs.declared.event.Event.{Event}
@@ -14,7 +14,7 @@ use Rattle.gr_model.specs.declared.report.Report.{Report}
 use Rattle.gr_model.specs.declared.report.Report.TheVariants as line
 use Rattle.gr_know.specs.Values.{Known}
 use Rattle.gr_model.specs.Net.{Net, is_host, keeps_horizon, numbers, not_empty}
-use Rattle.gr_model.specs.Broker.{joining, with_joins, drops, View, Log, Outcome, empty_log, is_kept, delivery_lines, got_line, learn, publish, marking, cutting, wake, wake_host, wake_below, asking, curiosity, expect, receive, clashes, place_of, with_event, max_tick}
+use Rattle.gr_model.specs.Broker.{joining, with_joins, drops, View, Log, Outcome, empty_log, is_kept, delivery_lines, got_line, learn, publish, marking, cutting, wake, wake_host, wake_below, asking, curiosity, expect, receive, place_of, with_event, max_tick}
 use Rattle.gr_model.specs.World.{join_now_by, World, Transition, view_of, log_of, absorbed, unchanged, followed_by, in_turn, sent_line, sent_lines, frame_at, restarted, crash, sweep_moment, show, opened_lines, kept_events, deliver_frame_by, next_by, publish_now_by, publish_stopped_by, sweep_by, wake_for_by}
 use Rattle.gr_model_calls.specs.OneNet.{join_now, wake_for, wake_all, deliver_frame, publish_now, publish_stopped, sweep_for, sweep, next}
 use Rattle.gr_frame.specs.Bytes.{frame_bytes}
@@ -26,6 +26,7 @@ use Rattle.std.specs.List.{list_any}
 use Rattle.std.proofs.lemmas.Bool.{eq-eqb, or_left, or_right}
 use Rattle.gr_model_calls.proofs.runs.Worlds.{Each, numbers_below}
 use Rattle.gr_model_calls.proofs.runs.Chains.{Chains, wake_all_chain, sweeps_chain}
+use Rattle.gr_model_theorems.proofs.records.RecordLines.{host_lines}
 
 -- cut and horizon lines name a publisher and a subscriber of the topology, and each doubt line is as G says
 abbrev pub Named : Net → (ℕ → ℕ → ℕ → Type 0) → List Report → Type 0
@@ -124,14 +125,20 @@ wake_named net p b now v log n i j = go (is_host net p b)
     new : Log
     new = cutting net p b o.view o.log
 
-    front : (c d : Bool) → Named net Never ((if c then line.Mark p now ∷ [] else []) ++ (if d then line.Cut p new.cut ∷ [] else []))
-    front true true = (j, tt)
-    front true false = tt
-    front false true = (j, tt)
-    front false false = tt
+    front : (c d e : Bool) → Named net Never (host_lines p now new.cut new.generation c d e)
+    front true true true = (j, tt)
+    front true true false = (j, tt)
+    front true false e = tt
+    front false true true = (j, tt)
+    front false true false = (j, tt)
+    front false false e = tt
 
     go : (q : Bool) → Named net Never (let u : Outcome = elim q [ true ↦ wake_host net p b now v log | false ↦ wake_below net p b now v log ] in u.lines)
-    go true = Named-append net Never ((if nat_lt log.settled o.log.settled then line.Mark p now ∷ [] else []) ++ (if nat_lt o.log.cut new.cut then line.Cut p new.cut ∷ [] else [])) o.lines (front (nat_lt log.settled o.log.settled) (nat_lt o.log.cut new.cut)) (marking_named net p b now v log n i j)
+    go true =
+        let c = nat_lt log.settled o.log.settled in
+        let d = nat_lt o.log.cut new.cut in
+        let e = nat_lt o.log.generation new.generation in
+        Named-append net Never (host_lines p now new.cut new.generation c d e) o.lines (front c d e) (marking_named net p b now v log n i j)
     go false = tt
 
 absorbed_named : (net : Net) (w : World) (b p : ℕ) (o : Outcome) → Named net Never o.lines → Named net Never (absorbed w b p o).lines
@@ -184,7 +191,7 @@ crash_named net w b = opened_named net w.logs b
 
 stopped_named : (net : Net) (w : World) (k p number : ℕ) (stop : Stop) (e : Event) → IsNet net → p < net.publishers → Named net Never (publish_stopped net w k p number stop e).lines
 unfolding publish_stopped_by
-stopped_named net w k p number stop e n j = go (not_empty (net.subscribers_at (net.host p))) (nat_eq number (suc log.last) && nat_le tick max_tick) (is_kept log.gate stop.call stop.pick)
+stopped_named net w k p number stop e n j = go (not_empty (net.subscribers_at (net.host p))) (nat_eq number (suc log.last) && nat_le tick max_tick) (is_kept (log.size - 1) stop.call stop.pick)
   where
     log : Log
     log = log_of w p

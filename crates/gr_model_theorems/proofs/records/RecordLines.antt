@@ -12,7 +12,7 @@ use Rattle.gr_know.specs.Values.{Known}
 use Rattle.gr_model.specs.declared.report.Report.{Report}
 use Rattle.gr_model.specs.declared.report.Report.TheVariants as line
 use Rattle.gr_model.specs.Net.{Net, is_host, numbers_from}
-use Rattle.gr_model.specs.Broker.{joining, with_joins, drops, View, Log, Outcome, delivery_lines, got_line, learn, publish, marking, cutting, wake, wake_host, wake_below, asking, curiosity, expect, receive, clashes, place_of, max_tick}
+use Rattle.gr_model.specs.Broker.{joining, with_joins, drops, View, Log, Outcome, delivery_lines, got_line, learn, publish, marking, cutting, wake, wake_host, wake_below, asking, curiosity, expect, receive, place_of, max_tick}
 use Rattle.gr_model.specs.World.{join_now_by, World, Transition, view_of, log_of, absorbed, unchanged, followed_by, in_turn, sent_line, sent_lines, deliver_frame_by, publish_now_by, wake_for_by}
 use Rattle.gr_model_calls.specs.OneNet.{join_now, wake_for, deliver_frame, publish_now, sweep_for}
 use Rattle.gr_model.specs.Headline.{join_line, Recorded, is_record_line, is_sent, publish_line, marked, settling}
@@ -146,9 +146,10 @@ join_line_unsent s p now r = go (has_joined r.joined s) (nat_lt max_tick (max (s
 pub marking_none : (f : Report → Bool) (net : Net) (p b now : ℕ) (v : View) (log : Log) → Skips f → filter f (marking net p b now v log).lines ≡ []
 marking_none f net p b now v log k = marking_cases net p b now v log (λ o. filter f o.lines ≡ []) (λ e. learn_none f net p b _ v _ k) (λ e. refl)
 
--- the lines of a woken host before those that subscribers are told
-abbrev pub host_lines : ℕ → ℕ → ℕ → Bool → Bool → List Report
-host_lines p now cut c d = (if c then line.Mark p now ∷ [] else []) ++ (if d then line.Cut p cut ∷ [] else [])
+-- the lines of a woken host before those that subscribers are told: its mark, its cut, and that its log was written anew
+abbrev pub host_lines : ℕ → ℕ → ℕ → ℕ → Bool → Bool → Bool → List Report
+host_lines p now cut generation c d e = (if c then line.Mark p now ∷ [] else [])
+    ++ (if d then line.Cut p cut ∷ (if e then line.Reclaimed p generation ∷ [] else []) else [])
 
 -- a wake marks where the log was silent for long
 abbrev pub mark_line : Net → ℕ → ℕ → ℕ → Recorded → List Report
@@ -164,11 +165,13 @@ wake_recs net p b now v log z = go (is_host net p b)
     new : Log
     new = cutting net p b o.view o.log
 
-    two : (c d : Bool) → recs (host_lines p now new.cut c d) ≡ (if c then line.Mark p now ∷ [] else [])
-    two true true = refl
-    two true false = refl
-    two false true = refl
-    two false false = refl
+    two : (c d e : Bool) → recs (host_lines p now new.cut new.generation c d e) ≡ (if c then line.Mark p now ∷ [] else [])
+    two true true true = refl
+    two true true false = refl
+    two true false e = refl
+    two false true true = refl
+    two false true false = refl
+    two false false e = refl
 
     rises : (c : Bool) → nat_le (log.settled + net.quiet) now ≡ c → nat_lt log.settled (let r : Recorded = if c then settling now (core log) else core log in r.settled) ≡ c
     rises true e = lt-ltb log.settled now (omega (arith, leb-true (log.settled + net.quiet) now e))
@@ -181,8 +184,9 @@ wake_recs net p b now v log z = go (is_host net p b)
     go true =
         let c = nat_lt log.settled o.log.settled in
         let d = nat_lt o.log.cut new.cut in
-        filter-append is_record_line (host_lines p now new.cut c d) o.lines
-        ∙ (ap₂ (λ x y. x ++ y) (two c d) (marking_none is_record_line net p b now v log records_skip)
+        let e = nat_lt o.log.generation new.generation in
+        filter-append is_record_line (host_lines p now new.cut new.generation c d e) o.lines
+        ∙ (ap₂ (λ x y. x ++ y) (two c d e) (marking_none is_record_line net p b now v log records_skip)
         ∙ (append-nil (if c then line.Mark p now ∷ [] else []) ∙ ap (λ q. if q then line.Mark p now ∷ [] else []) is_marked))
     go false = refl
 
@@ -196,17 +200,20 @@ wake_unsent net p b now v log = go (is_host net p b)
     new : Log
     new = cutting net p b o.view o.log
 
-    two : (c d : Bool) → filter is_sent (host_lines p now new.cut c d) ≡ []
-    two true true = refl
-    two true false = refl
-    two false true = refl
-    two false false = refl
+    two : (c d e : Bool) → filter is_sent (host_lines p now new.cut new.generation c d e) ≡ []
+    two true true true = refl
+    two true true false = refl
+    two true false e = refl
+    two false true true = refl
+    two false true false = refl
+    two false false e = refl
 
     go : (q : Bool) → filter is_sent (let u : Outcome = elim q [ true ↦ wake_host net p b now v log | false ↦ wake_below net p b now v log ] in u.lines) ≡ []
     go true =
         let c = nat_lt log.settled o.log.settled in
         let d = nat_lt o.log.cut new.cut in
-        filter-append is_sent (host_lines p now new.cut c d) o.lines ∙ ap₂ (λ x y. x ++ y) (two c d) (marking_none is_sent net p b now v log sents_skip)
+        let e = nat_lt o.log.generation new.generation in
+        filter-append is_sent (host_lines p now new.cut new.generation c d e) o.lines ∙ ap₂ (λ x y. x ++ y) (two c d e) (marking_none is_sent net p b now v log sents_skip)
     go false = refl
 
 -- A call taken up

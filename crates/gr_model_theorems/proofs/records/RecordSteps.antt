@@ -1,5 +1,5 @@
 -- What every step tells: the recorded lines that the record and the step demand, and a sent line for each frame sent
-use Rattle.std.proofs.Common.{◌≡◌, inl, inr, ℕ, suc, zero, ◌+◌, ◌≤◌, ◌<◌, max, Bool, true, false, not, ◌&&◌, List, [], ◌∷◌, ◌++◌, map, length, set, get_or, refl, sym, ap, ap₂, ◌∙◌, subst, Option, Some, None, arith}
+use Rattle.std.proofs.Common.{◌≡◌, inl, inr, ℕ, suc, zero, ◌+◌, ◌≤◌, ◌<◌, max, Bool, true, false, not, ◌&&◌, List, [], ◌∷◌, ◌-◌, ◌++◌, map, length, set, get_or, refl, sym, ap, ap₂, ◌∙◌, subst, Option, Some, None, arith}
 use Rattle.std.specs.Prelude.{nat_eq, nat_le, nat_lt, if◌then◌else◌, flat_map, filter}
 use Rattle.std.proofs.lemmas.Bool.{cases_eq, le-leb, lt-leb, ltb-true, ltb-false}
 use Rattle.std.proofs.lemmas.List.{get_or-set_other, get_or-set_same}
@@ -16,7 +16,7 @@ use Rattle.gr_model.specs.declared.report.Report.TheVariants as line
 use Rattle.gr_model.specs.Net.{Net, keeps_horizon, numbers, numbers_from, not_empty}
 use Rattle.gr_model.specs.Broker.{Log, empty_log, with_event, is_kept, max_tick}
 use Rattle.gr_model.specs.World.{World, Transition, view_of, log_of, unchanged, followed_by, in_turn, frame_at, crash, restarted, opened_lines, sweep_moment, show, kept_events, next_by, publish_stopped_by, sweep_by, wake_all_by}
-use Rattle.gr_model_calls.specs.OneNet.{wake_all, deliver_frame, publish_now, publish_stopped, sweep, sweep_for, next}
+use Rattle.gr_model_calls.specs.OneNet.{deliver_frame, publish_now, publish_stopped, sweep, sweep_for, next}
 use Rattle.gr_model.specs.Headline.{join_line, Recorded, History, nothing_recorded, reopened_cut, record_of, is_record_line, is_sent, sent_count, record_lines, records_after, publish_line, opened_of, last_cut, count_past, is_next, tick_of, says_kept, may_crash, is_swept, sweep_at}
 use Rattle.gr_model.specs.Headline as headline
 use Rattle.gr_model.specs.Tree.{IsNet}
@@ -97,7 +97,7 @@ stop_lines net found p number clock r ls free due kept records =
 stopped_recs : (net : Net) (found : List ℕ) (w : World) (k p number : ℕ) (stop : Stop) (e : Event) (ls : List Report) → WorldFits net w → p < net.publishers → CutsTold net found w.logs ls →
     (let t = publish_stopped net w k p number stop e in recs t.lines ≡ stop_lines net found p number w.clock (core_of w p) ls (may_crash net (net.host p)) (is_next w.clock (core_of w p) number) (says_kept t.lines) (map core t.world.logs))
 unfolding publish_stopped_by restarted
-stopped_recs net found w k p number stop e ls f j c = go (not_empty (net.subscribers_at (net.host p))) (nat_eq number (suc log.last) && nat_le tick max_tick) (is_kept log.gate stop.call stop.pick)
+stopped_recs net found w k p number stop e ls f j c = go (not_empty (net.subscribers_at (net.host p))) (nat_eq number (suc log.last) && nat_le tick max_tick) (is_kept (log.size - 1) stop.call stop.pick)
   where
     log : Log
     log = log_of w p
@@ -130,7 +130,7 @@ stopped_recs net found w k p number stop e ls f j c = go (not_empty (net.subscri
 
 stopped_sends : (net : Net) (w : World) (k p number : ℕ) (stop : Stop) (e : Event) → Sends w (publish_stopped net w k p number stop e)
 unfolding publish_stopped_by restarted
-stopped_sends net w k p number stop e = go (not_empty (net.subscribers_at (net.host p))) (nat_eq number (suc log.last) && nat_le tick max_tick) (is_kept log.gate stop.call stop.pick)
+stopped_sends net w k p number stop e = go (not_empty (net.subscribers_at (net.host p))) (nat_eq number (suc log.last) && nat_le tick max_tick) (is_kept (log.size - 1) stop.call stop.pick)
   where
     log : Log
     log = log_of w p

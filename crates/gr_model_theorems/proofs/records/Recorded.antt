@@ -1,5 +1,5 @@
 -- The logs are the record of the steps, over every schedule
-use Rattle.std.proofs.Common.{◌≡◌, ◌≢◌, ◌⊎◌, inl, inr, ⊎_elim, ℕ, suc, zero, ◌+◌, ◌≤◌, ◌<◌, max, Bool, true, false, ◌&&◌, List, [], ◌∷◌, ◌++◌, map, length, set, get_or, replicate, refl, sym, ap, ap₂, ◌∙◌, subst, Option, Some, None, arith, append-nil, append_assoc}
+use Rattle.std.proofs.Common.{◌≡◌, ◌≢◌, ◌⊎◌, inl, inr, ⊎_elim, ℕ, suc, zero, ◌+◌, ◌≤◌, ◌<◌, max, Bool, true, false, ◌&&◌, List, [], ◌∷◌, ◌-◌, ◌++◌, map, length, set, get_or, replicate, refl, sym, ap, ap₂, ◌∙◌, subst, Option, Some, None, arith, append-nil, append_assoc}
 use Rattle.std.specs.Prelude.{nat_eq, nat_le, nat_lt, if◌then◌else◌, flat_map}
 use Rattle.std.proofs.lemmas.Bool.{cases_eq, eq-eqb, ne_eqb, le-leb, lt-leb, ltb-true, ltb-false, and_right}
 use Rattle.std.proofs.lemmas.List.{get_or-set_other, get_or-set_same, length-set, ext_get_or, set-get_or}
@@ -15,7 +15,7 @@ use Rattle.gr_model.specs.declared.report.Report.TheVariants as line
 use Rattle.gr_model.specs.Net.{Net, is_host, not_empty, numbers, numbers_from}
 use Rattle.gr_model.specs.Broker.{joining, Log, empty_log, publish, with_event, is_kept, max_tick}
 use Rattle.gr_model.specs.World as world
-use Rattle.gr_model.specs.World.{join_now_by, World, Transition, view_of, log_of, absorbed, unchanged, in_turn, frame_at, crash, restarted, sweep_moment, start, opened_lines, next_by, publish_now_by, publish_stopped_by, run_from_by, sweep_by, wake_all_by}
+use Rattle.gr_model.specs.World.{join_now_by, World, Transition, view_of, log_of, absorbed, unchanged, in_turn, frame_at, crash, restarted, sweep_moment, start, start_by, opened_lines, next_by, publish_now_by, publish_stopped_by, run_from_by, sweep_by, wake_all_by}
 use Rattle.gr_model_calls.specs.OneNet.{join_now, wake_for, wake_all, deliver_frame, publish_now, publish_stopped, sweep, sweep_for, next, run_all, run_from, history_of}
 use Rattle.gr_model.specs.Headline.{may_enter, with_joined, Recorded, History, nothing_recorded, record_of, recording, settling, marked, is_next, greatest, sweep_at, is_swept, each_record, records_after, clock_after, most_after, history_after, history, begin, expected, delivered_events, last_horizon, HorizonsRise, GetsExactly, says_kept}
 use Rattle.gr_model_calls.proofs.calls.Telling.{steady_rises}
@@ -306,7 +306,7 @@ stopped_is net w k p number stop e f j = host_at (not_empty (net.subscribers_at 
     tick = max (suc log.settled) w.clock
 
     kept : Bool
-    kept = is_kept log.gate stop.call stop.pick
+    kept = is_kept (log.size - 1) stop.call stop.pick
 
     told : Bool → Transition
     told q =
@@ -476,7 +476,7 @@ replicate_same a (suc n) = ap (λ z. nothing_recorded ∷ z) (replicate_same (su
 
 -- at the start the records of the history are those of the logs
 pub begin_fits : (net : Net) → RecordsFit net (start net) (begin net)
-unfolding begin start
+unfolding begin start_by
 begin_fits net = record { clock = refl; most = refl; records = sym (replicate_same 0 net.publishers) }
 
 -- the history along a run: its records are those of the logs, and its lines those told

@@ -1,6 +1,6 @@
 -- The logs of the world are the record of the steps
 use Rattle.std.proofs.Common.{◌≡◌, ◌≢◌, ◌⊎◌, inl, inr, ⊎_elim, ℕ, suc, zero, ◌+◌, ◌≤◌, ◌<◌, max, Bool, true, false, List, [], ◌∷◌, ◌++◌, length, set, get_or, refl, sym, ap, ◌∙◌, subst, arith}
-use Rattle.std.specs.Prelude.{nat_eq, nat_le, nat_lt, if◌then◌else◌, flat_map, filter}
+use Rattle.std.specs.Prelude.{nat_eq, nat_le, if◌then◌else◌, flat_map, filter}
 use Rattle.std.specs.List.{list_any}
 use Rattle.std.proofs.lemmas.Bool.{or_left, or_right, or_cases, cases_Bool, cases_eq, false≢true, eqb-true, eq-eqb, ne_eqb, both_ways, le-leb, lt-leb, and_right}
 use Rattle.std.proofs.lemmas.List.{get_or-set_other, get_or-set_same}
@@ -9,16 +9,17 @@ use Rattle.gr_frame.specs.declared.Body.{Body}
 use Rattle.gr_frame.specs.declared.Body.TheVariants as body
 use Rattle.gr_frame.specs.declared.Frame.{Frame}
 use Rattle.gr_know.specs.Values.{Known}
-use Rattle.gr_event.specs.Joins.{Joins, longer, has_joined}
-use Rattle.gr_model.specs.Net.{Net, is_host, keeps_horizon, numbers, numbers_from}
-use Rattle.gr_model.specs.Broker.{with_joins, with_join, drops, joining, View, Log, Outcome, empty_log, publish, wake, wake_host, wake_below, asking, marking, cutting, receive, clashes, learn, curiosity, expect, place_of, with_event, with_mark, with_cut, silence, max_tick, done_upto, consolidated}
+use Rattle.gr_event.specs.Joins.{Joins, longer}
+use Rattle.gr_model.specs.Net.{Net, is_host, numbers, numbers_from}
+use Rattle.gr_model.specs.Broker.{with_joins, with_join, drops, joining, View, Log, Outcome, empty_log, publish, wake, wake_host, wake_below, asking, marking, cutting, receive, learn, curiosity, expect, place_of, with_event, with_mark, silence, max_tick}
 use Rattle.gr_model.specs.World.{World, Transition, view_of, log_of, absorbed, unchanged, followed_by, in_turn, frames_past, sent_since, is_want, is_know_to, at_depth, outwards, inwards, numbers_down, deliver_frame_by, deliver_up_by, hand_down_by, sweep_for_by, wake_for_by, wake_up_by}
 use Rattle.gr_model_calls.specs.OneNet.{wake_for, deliver_frame, deliver_up, wake_up, hand_down, sweep_for}
 use Rattle.gr_model.specs.Headline.{may_enter, with_joined, Recorded, recording, settling, marked, is_next}
 use Rattle.gr_model.specs.Tree.{IsNet}
 use Rattle.gr_model_calls.specs.Fits.{WorldFits, FrameTrue}
 use Rattle.gr_model_calls.proofs.calls.HostCases.{publish_cases, marking_cases, joining_cases}
-use Rattle.gr_model_calls.proofs.calls.Calls.{learn_log}
+use Rattle.gr_model_calls.proofs.calls.Calls.{learn_log, marking_forgets}
+use Rattle.gr_model_calls.proofs.calls.Cutting.{cut_cases, cut_at, cutting_cases, cutting_forgets}
 use Rattle.gr_model_calls.proofs.runs.Worlds.{Kept, Kept-refl, Kept-after, wake_for_kept, deliver_kept, Each, IsLaterWorld, FrameTrue-later, frames_past_true, filter_frames, depths_in}
 
 -- what a log has of the record
@@ -45,13 +46,11 @@ receive_log net now f v log = go f.body
     go (body.Curiosity runs) = refl
     go (body.Expect tick) = refl
 
-cutting_core : (net : Net) (p b : ℕ) (v : View) (log : Log) → core (cutting net p b v log) ≡ core log
-unfolding cutting
-cutting_core net p b v log = go (nat_lt log.cut (done_upto (consolidated (keeps_horizon net p b) v.horizon v.wants) log.settled))
-  where
-    go : (q : Bool) → core (if q then with_cut log (done_upto (consolidated (keeps_horizon net p b) v.horizon v.wants) log.settled) else log) ≡ core log
-    go true = refl
-    go false = refl
+-- a cut leaves of a log that does not forget all that the record has
+cutting_core : (net : Net) (p b : ℕ) (v : View) (log : Log) → log.forgets ≡ false → core (cutting net p b v log) ≡ core log
+cutting_core net p b v log keeps =
+    cutting_cases net p b v log (λ l. core l ≡ core log) refl
+    (λ x. cut_cases net.reclaim log (cut_at net p b v log) (λ l. core l ≡ core log) (rw keeps refl) (rw keeps refl))
 
 -- a mark leaves of a log what the record says of the mark
 pub marking_core : (net : Net) (p b now : ℕ) (v : View) (log : Log) → core (marking net p b now v log).log ≡ marked net now (core log)
@@ -61,12 +60,21 @@ marking_core net p b now v log =
     (λ e. ap (λ q. if q then settling now (core log) else core log) (sym e))
 
 -- a wake leaves of a log what the record says: a mark at the host, and else nothing new
-pub wake_core : (net : Net) (p b now : ℕ) (v : View) (log : Log) → core (wake net p b now v log).log ≡ (if is_host net p b then marked net now (core log) else core log)
+pub wake_core : (net : Net) (p b now : ℕ) (v : View) (log : Log) → log.forgets ≡ false → core (wake net p b now v log).log ≡ (if is_host net p b then marked net now (core log) else core log)
 unfolding wake wake_host wake_below asking
-wake_core net p b now v log = go (is_host net p b)
+wake_core net p b now v log keeps = go (is_host net p b)
   where
     go : (q : Bool) → core (let u : Outcome = elim q [ true ↦ wake_host net p b now v log | false ↦ wake_below net p b now v log ] in u.log) ≡ (if q then marked net now (core log) else core log)
-    go true = cutting_core net p b (marking net p b now v log).view (marking net p b now v log).log ∙ marking_core net p b now v log
+    go true = cutting_core net p b (marking net p b now v log).view (marking net p b now v log).log (marking_forgets net p b now v log ∙ keeps) ∙ marking_core net p b now v log
+    go false = refl
+
+-- a wake changes nothing in whether a log forgets
+pub wake_forgets : (net : Net) (p b now : ℕ) (v : View) (log : Log) → (wake net p b now v log).log.forgets ≡ log.forgets
+unfolding wake wake_host wake_below asking
+wake_forgets net p b now v log = go (is_host net p b)
+  where
+    go : (q : Bool) → (let u : Outcome = elim q [ true ↦ wake_host net p b now v log | false ↦ wake_below net p b now v log ] in u.log.forgets) ≡ log.forgets
+    go true = cutting_forgets net p b (marking net p b now v log).view (marking net p b now v log).log ∙ marking_forgets net p b now v log
     go false = refl
 
 -- a publish leaves of a log what the record says: the event, where its number is the next one
@@ -145,7 +153,7 @@ Marks-refl net p w f = record { kept = Kept-refl net w f; clock = refl; most = r
 -- a wake changes at most the record of its publisher, by a mark at the host
 pub wake_for_core : (net : Net) (w : World) (b p q : ℕ) → WorldFits net w → p < net.publishers → core_of (wake_for net w b p).world q ≡ (if nat_eq q p then (if is_host net p b then marked net w.clock (core_of w p) else core_of w p) else core_of w q)
 unfolding wake_for_by
-wake_for_core net w b p q f j = absorbed_cores net w b p q (wake net p b w.clock (view_of w b p) (log_of w p)) f j ∙ ap (λ z. if nat_eq q p then z else core_of w q) (wake_core net p b w.clock (view_of w b p) (log_of w p))
+wake_for_core net w b p q f j = absorbed_cores net w b p q (wake net p b w.clock (view_of w b p) (log_of w p)) f j ∙ ap (λ z. if nat_eq q p then z else core_of w q) (wake_core net p b w.clock (view_of w b p) (log_of w p) (f.logs p j).keeps)
 
 -- a wake leaves the clock
 pub wake_for_clock : (net : Net) (w : World) (b p : ℕ) → (wake_for net w b p).world.clock ≡ w.clock

@@ -21,15 +21,15 @@ use Rattle.gr_sched.specs.declared.step.Line.{Line}
 use Rattle.gr_sched.specs.declared.step.Step.TheVariants as step
 use Rattle.gr_model.specs.declared.report.Report.{Report}
 use Rattle.gr_model.specs.declared.report.Report.TheVariants as line
-use Rattle.gr_model.specs.Net.{Net, not_empty, numbers}
+use Rattle.gr_model.specs.Net.{Net, not_empty}
 use Rattle.gr_model.specs.Broker.{max_tick, clashes}
 use Rattle.gr_model.specs.World.{World, Transition, view_of, unchanged, followed_by, in_turn, frame_at, sent_line, sent_lines, next_by}
-use Rattle.gr_model_calls.specs.OneNet.{deliver_frame, publish_now, wake_all, next, run_all, takes, receives, notes, reads, answered_first, quieted, comes, join_now}
+use Rattle.gr_model_calls.specs.OneNet.{deliver_frame, publish_now, wake_all, next, run_all, receives, notes, reads, answered_first, comes, join_now}
 use Rattle.gr_model_calls.specs.Edges.{GoesBetween, GoesOverEdge}
 use Rattle.gr_model.specs.Headline.{is_sent, sent_number}
 use Rattle.gr_model_theorems.specs.Replies.{frame_of_line}
 use Rattle.gr_model.specs.Arrivals.{asks_publish, asks_join, joins_in, split_line, Arrival, datagram, quiet, Publish, at_moment, fits_broker, clash_runs, first_of, least_clash, clash_line, fault_number, publisher_of, submitted_in, comes_by, quieted_by, receives_by, takes_by, notes_by, Request}
-use Rattle.gr_model_theorems.specs.Served.{tells_bytes, number_of_bytes, as_line, request_step, delivery_step, is_frame, submitted_step, note_step, datagram_step, steps_at, dropped_as, unsubmitted_as, note_dropped_as, datagram_dropped, dropped_line}
+use Rattle.gr_model_theorems.specs.Served.{tells_bytes, number_of_bytes, as_line, request_step, delivery_step, is_frame, submitted_step, note_step, steps_at, dropped_as, unsubmitted_as, note_dropped_as, dropped_line}
 use Rattle.gr_model.specs.Tree.{IsNet}
 use Rattle.gr_model_calls.specs.Fits.{WorldFits}
 use Rattle.gr_model_calls.proofs.runs.Clash.{no_frame_splits, no_frame_clashes}

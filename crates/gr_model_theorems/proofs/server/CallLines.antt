@@ -16,7 +16,7 @@ use Rattle.gr_model.specs.Net.{Net, is_host, numbers}
 use Rattle.gr_model.specs.Broker.{View, Log, Outcome, max_tick, marking, cutting, wake, wake_host, wake_below, asking, publish, receive, joining}
 use Rattle.gr_model.specs.World.{World, Transition, view_of, log_of, absorbed, in_turn, sent_line, sent_lines, deliver_frame_by, publish_now_by, wake_all_by, wake_for_by, join_now_by}
 use Rattle.gr_event.specs.Joins.{has_joined}
-use Rattle.gr_model_calls.specs.OneNet.{wake_for, wake_all, deliver_frame, publish_now, answered_first, quieted}
+use Rattle.gr_model_calls.specs.OneNet.{wake_for, wake_all, deliver_frame, answered_first, quieted}
 use Rattle.gr_model.specs.Headline.{Recorded, publish_line, join_line}
 use Rattle.gr_model_theorems.specs.Replies.{is_reply}
 use Rattle.gr_model.specs.Arrivals.{asks_publish, asks_join, quieted_by, Request}
@@ -33,6 +33,7 @@ pub record IsForeign (f : Report → Bool) : Type 0 where
   pub expect : (n from to p t : ℕ) → f (line.SentExpect n from to p t) ≡ false
   pub mark : (p t : ℕ) → f (line.Mark p t) ≡ false
   pub cut : (p t : ℕ) → f (line.Cut p t) ≡ false
+  pub reclaimed : (p g : ℕ) → f (line.Reclaimed p g) ≡ false
   pub logged : (p n t : ℕ) → f (line.Logged p n t) ≡ false
   pub already : (p n : ℕ) → f (line.Already p n) ≡ false
   pub gap : (p n next : ℕ) → f (line.Gap p n next) ≡ false
@@ -43,11 +44,11 @@ pub record IsForeign (f : Report → Bool) : Type 0 where
 
 -- no call writes a line of a dropped datagram
 pub drops_foreign : IsForeign is_dropped
-drops_foreign = record { got = λ s p t e. refl; horizon = λ s p t. refl; know = λ n a b p r js. refl; want = λ n a b p r. refl; expect = λ n a b p t. refl; mark = λ p t. refl; cut = λ p t. refl; logged = λ p n t. refl; already = λ p n. refl; gap = λ p n m. refl; exhausted = λ p n. refl; joined = λ s p t. refl; already_joined = λ s p. refl; exhausted_join = λ s p. refl }
+drops_foreign = record { got = λ s p t e. refl; horizon = λ s p t. refl; know = λ n a b p r js. refl; want = λ n a b p r. refl; expect = λ n a b p t. refl; mark = λ p t. refl; cut = λ p t. refl; reclaimed = λ p g. refl; logged = λ p n t. refl; already = λ p n. refl; gap = λ p n m. refl; exhausted = λ p n. refl; joined = λ s p t. refl; already_joined = λ s p. refl; exhausted_join = λ s p. refl }
 
 -- no call writes a line of a refused step or of bytes
 pub replies_foreign : IsForeign is_reply
-replies_foreign = record { got = λ s p t e. refl; horizon = λ s p t. refl; know = λ n a b p r js. refl; want = λ n a b p r. refl; expect = λ n a b p t. refl; mark = λ p t. refl; cut = λ p t. refl; logged = λ p n t. refl; already = λ p n. refl; gap = λ p n m. refl; exhausted = λ p n. refl; joined = λ s p t. refl; already_joined = λ s p. refl; exhausted_join = λ s p. refl }
+replies_foreign = record { got = λ s p t e. refl; horizon = λ s p t. refl; know = λ n a b p r js. refl; want = λ n a b p r. refl; expect = λ n a b p t. refl; mark = λ p t. refl; cut = λ p t. refl; reclaimed = λ p g. refl; logged = λ p n t. refl; already = λ p n. refl; gap = λ p n m. refl; exhausted = λ p n. refl; joined = λ s p t. refl; already_joined = λ s p. refl; exhausted_join = λ s p. refl }
 
 module _ (f : Report → Bool) (k : IsForeign f) where
   skips : Skips f
@@ -73,11 +74,17 @@ module _ (f : Report → Bool) (k : IsForeign f) where
   unfolding absorbed
   absorbed_none w b p o e = none_of_both o.lines (sent_lines (suc (length w.frames)) o.frames) e (sent_none (suc (length w.frames)) o.frames)
 
-  front_none : (p now cut : ℕ) (c d : Bool) → filter f (host_lines p now cut c d) ≡ []
-  front_none p now cut true true = none_of_both (line.Mark p now ∷ []) (line.Cut p cut ∷ []) (one (line.Mark p now) (k.mark p now)) (one (line.Cut p cut) (k.cut p cut))
-  front_none p now cut true false = one (line.Mark p now) (k.mark p now)
-  front_none p now cut false true = one (line.Cut p cut) (k.cut p cut)
-  front_none p now cut false false = refl
+  mark_none : (p now : ℕ) (c : Bool) → filter f (if c then line.Mark p now ∷ [] else []) ≡ []
+  mark_none p now true = one (line.Mark p now) (k.mark p now)
+  mark_none p now false = refl
+
+  cut_none : (p cut g : ℕ) (d e : Bool) → filter f (if d then line.Cut p cut ∷ (if e then line.Reclaimed p g ∷ [] else []) else []) ≡ []
+  cut_none p cut g true true = none_of_both (line.Cut p cut ∷ []) (line.Reclaimed p g ∷ []) (one (line.Cut p cut) (k.cut p cut)) (one (line.Reclaimed p g) (k.reclaimed p g))
+  cut_none p cut g true false = one (line.Cut p cut) (k.cut p cut)
+  cut_none p cut g false e = refl
+
+  front_none : (p now cut g : ℕ) (c d e : Bool) → filter f (host_lines p now cut g c d e) ≡ []
+  front_none p now cut g c d e = none_of_both (if c then line.Mark p now ∷ [] else []) (if d then line.Cut p cut ∷ (if e then line.Reclaimed p g ∷ [] else []) else []) (mark_none p now c) (cut_none p cut g d e)
 
   wake_none : (net : Net) (p b now : ℕ) (v : View) (log : Log) → filter f (wake net p b now v log).lines ≡ []
   unfolding wake wake_host wake_below asking
@@ -90,7 +97,11 @@ module _ (f : Report → Bool) (k : IsForeign f) where
       new = cutting net p b o.view o.log
 
       go : (q : Bool) → filter f (let u : Outcome = elim q [ true ↦ wake_host net p b now v log | false ↦ wake_below net p b now v log ] in u.lines) ≡ []
-      go true = none_of_both (host_lines p now new.cut (nat_lt log.settled o.log.settled) (nat_lt o.log.cut new.cut)) o.lines (front_none p now new.cut (nat_lt log.settled o.log.settled) (nat_lt o.log.cut new.cut)) (marking_none f net p b now v log skips)
+      go true =
+          let c = nat_lt log.settled o.log.settled in
+          let d = nat_lt o.log.cut new.cut in
+          let e = nat_lt o.log.generation new.generation in
+          none_of_both (host_lines p now new.cut new.generation c d e) o.lines (front_none p now new.cut new.generation c d e) (marking_none f net p b now v log skips)
       go false = refl
 
   publish_line_none : (p now number : ℕ) (r : Recorded) → filter f (publish_line p now number r ∷ []) ≡ []

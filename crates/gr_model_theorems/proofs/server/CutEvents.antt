@@ -20,40 +20,20 @@ use Rattle.gr_model.specs.declared.report.Report.{Report}
 use Rattle.gr_model.specs.declared.report.Report.TheVariants as line
 use Rattle.gr_pubend.specs.declared.answers.Joined.TheVariants as joins
 use Rattle.gr_model.specs.Net.{Net, is_host, keeps_horizon, not_empty, numbers}
-use Rattle.gr_model.specs.Broker.{taking, view_joined, joining, joining_by, joined_at, with_join, with_joins, drops, View, Log, Outcome, empty_log, event_at, log_at, log_know, with_event, with_mark, with_cut, silence, learn, receive, clashes, curiosity, expect, asking, place_of, published, quieted, publish, publish_by, marking, marking_by, cutting, wake, wake_host, wake_below, expect_frames, started, done_upto, consolidated, is_kept, max_tick}
+use Rattle.gr_model.specs.Broker.{taking, view_joined, joining, joining_by, joined_at, with_join, with_joins, drops, View, Log, Outcome, empty_log, event_at, log_at, log_know, with_event, with_mark, with_cut, past, cut_log_at, filled_log, reclaims, size_filled, cutting_lines, silence, learn, receive, curiosity, expect, asking, place_of, published, quieted, publish, publish_by, marking, marking_by, cutting, wake, wake_host, wake_below, expect_frames, started, done_upto, consolidated, is_kept, max_tick}
 use Rattle.gr_model.specs.World.{join_now_by, World, Transition, view_of, log_of, absorbed, unchanged, followed_by, in_turn, frame_at, opened_lines, restarted, crash, greatest_settled, sweep_moment, is_want, is_know_to, inwards, outwards, frames_past, sent_since, kept_events, show, wake_for_by, wake_all_by, deliver_frame_by, publish_now_by, publish_stopped_by, deliver_up_by, wake_up_by, hand_down_by, sweep_for_by, sweep_by, next_by, run_from_by}
 use Rattle.gr_pubend.specs.declared.answers.Published.TheVariants.{Logged, Already, Gap, Exhausted}
 use Rattle.gr_pubend.specs.declared.answers.Quieted.TheVariants.{NotYet, Marked}
 use Rattle.gr_model_calls.proofs.calls.HostCases.{news_of}
 use Rattle.gr_model_calls.proofs.runs.Closed.{with_logs}
+use Rattle.gr_model_theorems.specs.Forgets.{with_events, SameLog, SameLogs}
 use Rattle.gr_model_calls.proofs.runs.Schedules.{log_know-is}
 use Rattle.gr_tick.proofs.RunLaws.{runs_equal}
 
 -- Logs
 
--- a log with other events
-abbrev pub with_events : Log → List (ℕ × Event) → Log
-with_events l events = record { last = l.last; settled = l.settled; cut = l.cut; events = events; joins = l.joins; gate = l.gate }
-
--- the events past a tick
-abbrev pub past : ℕ → List (ℕ × Event) → List (ℕ × Event)
-past cut events = filter (λ x. nat_lt cut x.0) events
-
--- the second log has other events up to the cut
-pub record SameLog (l m : Log) : Type 0 where
-  pub events : List (ℕ × Event)
-  pub is : m ≡ with_events l events
-  pub past_same : past l.cut events ≡ past l.cut l.events
-
--- so it is of two lists of logs, one by one
-abbrev pub SameLogs : List Log → List Log → Type 0
-SameLogs [] [] = Unit {0}
-SameLogs (l ∷ ls) (m ∷ ms) = SameLog l m × SameLogs ls ms
-SameLogs [] (m ∷ ms) = ⊥
-SameLogs (l ∷ ls) [] = ⊥
-
-same_log : (l : Log) → SameLog l l
-same_log l = record { events = l.events; is = refl; past_same = refl }
+pub same_log : (l : Log) → SameLog l l
+same_log l = record { events = l.events; forgets = l.forgets; is = refl; past_same = refl }
 
 -- so it is of the logs of one publisher
 pub same_get : (ls ms : List Log) (p : ℕ) → SameLogs ls ms → SameLog (get_or ls p empty_log) (get_or ms p empty_log)
@@ -117,6 +97,7 @@ same_started net p b l m s = ap₂ (λ (k : Known) (js : Joins). let v : View = 
 same_longer : (l m : Log) (tick : ℕ) (e : Event) → SameLog l m → SameLog (with_event l tick e) (with_event m tick e)
 same_longer l m tick e s = subst (λ (x : Log). SameLog (with_event l tick e) (with_event x tick e)) (sym s.is) (record {
   events = s.events ++ (tick, e) ∷ [];
+  forgets = s.forgets;
   is = refl;
   past_same = filter-append (λ x. nat_lt l.cut x.0) s.events ((tick, e) ∷ []) ∙ (ap (λ (r : List (ℕ × Event)). r ++ past l.cut ((tick, e) ∷ [])) s.past_same ∙ sym (filter-append (λ x. nat_lt l.cut x.0) l.events ((tick, e) ∷ [])));
 })
@@ -138,7 +119,7 @@ pub same_learn : (net : Net) (p b : ℕ) (piece : Known) (v : View) (l m : Log) 
 unfolding learn
 same_learn net p b piece v l m s = record { log = m; is = refl; same = s }
 
-same_receive : (net : Net) (now : ℕ) (x : Frame) (v : View) (l m : Log) → SameLog l m → SameOut (receive net now x v l) (receive net now x v m)
+pub same_receive : (net : Net) (now : ℕ) (x : Frame) (v : View) (l m : Log) → SameLog l m → SameOut (receive net now x v l) (receive net now x v m)
 unfolding receive expect curiosity asking
 same_receive net now x v l m s = go x.body
   where
@@ -158,27 +139,61 @@ same_receive net now x v l m s = go x.body
     go (body.Curiosity runs) = record { log = m; is = refl; same = s }
     go (body.Expect tick) = record { log = m; is = refl; same = s }
 
-same_marking : (net : Net) (p b now : ℕ) (v : View) (l : Log) (events : List (ℕ × Event)) → past l.cut events ≡ past l.cut l.events → SameOut (marking net p b now v l) (marking net p b now v (with_events l events))
+same_marking : (net : Net) (p b now : ℕ) (v : View) (l : Log) (events : List (ℕ × Event)) (f : Bool) → past l.cut events ≡ past l.cut l.events → SameOut (marking net p b now v l) (marking net p b now v (with_events l events f))
 unfolding marking quieted
-same_marking net p b now v l events e = go (nat_le (l.settled + net.quiet) now)
+same_marking net p b now v l events f e = go (nat_le (l.settled + net.quiet) now)
   where
     told : Log → Bool → Outcome
     told log c = marking_by net p b v log (elim c [ true ↦ Marked now (silence (suc l.settled) now []) | false ↦ NotYet ])
 
-    go : (c : Bool) → SameOut (told l c) (told (with_events l events) c)
-    go true = same_learn net p b (silence (suc l.settled) now []) v (with_mark l now) (with_mark (with_events l events) now) (record { events = events; is = refl; past_same = e })
-    go false = record { log = with_events l events; is = refl; same = record { events = events; is = refl; past_same = e } }
+    go : (c : Bool) → SameOut (told l c) (told (with_events l events f) c)
+    go true = same_learn net p b (silence (suc l.settled) now []) v (with_mark l now) (with_mark (with_events l events f) now) (record { events = events; forgets = f; is = refl; past_same = e })
+    go false = record { log = with_events l events f; is = refl; same = record { events = events; forgets = f; is = refl; past_same = e } }
 
-same_cutting : (net : Net) (p b : ℕ) (v : View) (l : Log) (events : List (ℕ × Event)) → past l.cut events ≡ past l.cut l.events → SameLog (cutting net p b v l) (cutting net p b v (with_events l events))
+-- what is past the cut of a log after it
+kept_past : (t : ℕ) (f : Bool) (xs : List (ℕ × Event)) → past t (if f then past t xs else xs) ≡ past t xs
+kept_past t true xs = past_twice t t xs (omega arith)
+kept_past t false xs = refl
+
+-- a later cut of both, by a record or by writing them anew
+pub same_cut : (reclaim t : ℕ) (l m : Log) → l.cut ≤ t → SameLog l m → SameLog (cut_log_at reclaim l t) (cut_log_at reclaim m t)
+same_cut reclaim t l m le s = subst (λ (x : Log). SameLog (cut_log_at reclaim l t) (cut_log_at reclaim x t)) (sym s.is) (go (reclaims reclaim l.size l.generation))
+  where
+    n : Log
+    n = with_events l s.events s.forgets
+
+    events : List (ℕ × Event)
+    events = if s.forgets then past t s.events else s.events
+
+    agree : past t events ≡ past t (if l.forgets then past t l.events else l.events)
+    agree = kept_past t s.forgets s.events ∙ (past_later l.cut t s.events l.events le s.past_same ∙ sym (kept_past t l.forgets l.events))
+
+    go : (b : Bool) → SameLog (if b then filled_log (with_cut l t) else with_cut l t) (if b then filled_log (with_cut n t) else with_cut n t)
+    go true = record {
+      events = events;
+      forgets = s.forgets;
+      is = ap (λ (k : ℕ). let x : Log = record { last = l.last; settled = l.settled; cut = t; events = events; joins = l.joins; generation = suc l.generation; size = k; forgets = s.forgets } in x)
+          (ap (λ (xs : List (ℕ × Event)). size_filled t l.settled xs l.joins) agree);
+      past_same = agree;
+    }
+    go false = record { events = events; forgets = s.forgets; is = refl; past_same = agree }
+
+same_cutting : (net : Net) (p b : ℕ) (v : View) (l : Log) (events : List (ℕ × Event)) (f : Bool) → past l.cut events ≡ past l.cut l.events → SameLog (cutting net p b v l) (cutting net p b v (with_events l events f))
 unfolding cutting
-same_cutting net p b v l events e = go (nat_lt l.cut a) refl
+same_cutting net p b v l events f e = go (nat_lt l.cut a) refl
   where
     a : ℕ
     a = done_upto (consolidated (keeps_horizon net p b) v.horizon v.wants) l.settled
 
-    go : (c : Bool) → nat_lt l.cut a ≡ c → SameLog (if c then with_cut l a else l) (if c then with_cut (with_events l events) a else with_events l events)
-    go true x = record { events = events; is = refl; past_same = past_later l.cut a events l.events (omega (arith, ltb-true l.cut a x)) e }
-    go false x = record { events = events; is = refl; past_same = e }
+    n : Log
+    n = with_events l events f
+
+    still : SameLog l n
+    still = record { events = events; forgets = f; is = refl; past_same = e }
+
+    go : (c : Bool) → nat_lt l.cut a ≡ c → SameLog (if c then cut_log_at net.reclaim l a else l) (if c then cut_log_at net.reclaim n a else n)
+    go true x = same_cut net.reclaim a l n (omega (arith, ltb-true l.cut a x)) still
+    go false x = still
 
 -- what a woken host leaves and tells, by its marking and its new log
 abbrev hosted : Net → ℕ → ℕ → ℕ → Log → Outcome → Log → Outcome
@@ -186,46 +201,46 @@ hosted net p b now l o new = record {
   view = o.view;
   log = new;
   lines = (if nat_lt l.settled o.log.settled then line.Mark p now ∷ [] else [])
-      ++ (if nat_lt o.log.cut new.cut then line.Cut p new.cut ∷ [] else [])
+      ++ cutting_lines p o.log new
       ++ o.lines;
   frames = o.frames ++ (if nat_lt 0 new.settled then expect_frames p b new.settled (net.children p b) o.view.wants else []);
 }
 
-same_wake : (net : Net) (p b now : ℕ) (v : View) (l m : Log) → SameLog l m → SameOut (wake net p b now v l) (wake net p b now v m)
+pub same_wake : (net : Net) (p b now : ℕ) (v : View) (l m : Log) → SameLog l m → SameOut (wake net p b now v l) (wake net p b now v m)
 unfolding wake wake_host wake_below asking
 same_wake net p b now v l m s = subst (λ (x : Log). SameOut (wake net p b now v l) (wake net p b now v x)) (sym s.is) (go (is_host net p b))
   where
     n : Log
-    n = with_events l s.events
+    n = with_events l s.events s.forgets
 
     told : Log → Bool → Outcome
     told log c = elim c [ true ↦ wake_host net p b now v log | false ↦ wake_below net p b now v log ]
 
     k : SameOut (marking net p b now v l) (marking net p b now v n)
-    k = same_marking net p b now v l s.events s.past_same
+    k = same_marking net p b now v l s.events s.forgets s.past_same
 
     o : Outcome
     o = marking net p b now v l
 
-    cut : SameLog (cutting net p b o.view o.log) (cutting net p b o.view (with_events o.log k.same.events))
-    cut = same_cutting net p b o.view o.log k.same.events k.same.past_same
+    cut : SameLog (cutting net p b o.view o.log) (cutting net p b o.view (with_events o.log k.same.events k.same.forgets))
+    cut = same_cutting net p b o.view o.log k.same.events k.same.forgets k.same.past_same
 
     c : Log
     c = cutting net p b o.view o.log
 
-    on_marking : marking net p b now v n ≡ on_log o (with_events o.log k.same.events)
+    on_marking : marking net p b now v n ≡ on_log o (with_events o.log k.same.events k.same.forgets)
     on_marking = k.is ∙ ap (on_log o) k.same.is
 
-    host_is : wake_host net p b now v n ≡ on_log (hosted net p b now l o c) (with_events c cut.events)
+    host_is : wake_host net p b now v n ≡ on_log (hosted net p b now l o c) (with_events c cut.events cut.forgets)
     host_is =
         ap (λ (q : Outcome). hosted net p b now l q (cutting net p b q.view q.log)) on_marking
-        ∙ ap (λ (x : Log). hosted net p b now l (on_log o (with_events o.log k.same.events)) x) cut.is
+        ∙ ap (λ (x : Log). hosted net p b now l (on_log o (with_events o.log k.same.events k.same.forgets)) x) cut.is
 
     go : (q : Bool) → SameOut (told l q) (told n q)
-    go true = record { log = with_events c cut.events; is = host_is; same = record { events = cut.events; is = refl; past_same = cut.past_same } }
-    go false = record { log = n; is = refl; same = record { events = s.events; is = refl; past_same = s.past_same } }
+    go true = record { log = with_events c cut.events cut.forgets; is = host_is; same = record { events = cut.events; forgets = cut.forgets; is = refl; past_same = cut.past_same } }
+    go false = record { log = n; is = refl; same = record { events = s.events; forgets = s.forgets; is = refl; past_same = s.past_same } }
 
-same_publish : (net : Net) (p b now number : ℕ) (e : Event) (v : View) (l m : Log) → SameLog l m → SameOut (publish net p b now number e v l) (publish net p b now number e v m)
+pub same_publish : (net : Net) (p b now number : ℕ) (e : Event) (v : View) (l m : Log) → SameLog l m → SameOut (publish net p b now number e v l) (publish net p b now number e v m)
 unfolding publish published
 same_publish net p b now number e v l m s = subst (λ (x : Log). SameOut (publish net p b now number e v l) (publish net p b now number e v x)) (sym s.is) (go (nat_le number l.last) (nat_lt (suc l.last) number) (nat_lt max_tick tick))
   where
@@ -233,7 +248,7 @@ same_publish net p b now number e v l m s = subst (λ (x : Log). SameOut (publis
     tick = max (suc l.settled) now
 
     n : Log
-    n = with_events l s.events
+    n = with_events l s.events s.forgets
 
     told : Log → Bool → Bool → Bool → Outcome
     told log x y z =
@@ -241,7 +256,7 @@ same_publish net p b now number e v l m s = subst (λ (x : Log). SameOut (publis
         (elim x [ true ↦ Already | false ↦ elim y [ true ↦ Gap (suc l.last) | false ↦ elim z [ true ↦ Exhausted | false ↦ Logged tick (news_of l tick e) ] ] ])
 
     still : SameLog l n
-    still = record { events = s.events; is = refl; past_same = s.past_same }
+    still = record { events = s.events; forgets = s.forgets; is = refl; past_same = s.past_same }
 
     learned : SameOut (learn net p b (news_of l tick e) v (with_event l tick e)) (learn net p b (news_of l tick e) v (with_event n tick e))
     learned = same_learn net p b (news_of l tick e) v (with_event l tick e) (with_event n tick e) (same_longer l n tick e still)
@@ -252,7 +267,7 @@ same_publish net p b now number e v l m s = subst (λ (x : Log). SameOut (publis
     go false false true = record { log = n; is = refl; same = still }
     go false false false = record { log = learned.log; is = ap (λ (o : Outcome). let q : Outcome = record { view = o.view; log = o.log; lines = line.Logged p number tick ∷ o.lines; frames = o.frames } in q) learned.is; same = learned.same }
 
-same_joining : (net : Net) (p b now q : ℕ) (v : View) (l m : Log) → SameLog l m → SameOut (joining net p b now q v l) (joining net p b now q v m)
+pub same_joining : (net : Net) (p b now q : ℕ) (v : View) (l m : Log) → SameLog l m → SameOut (joining net p b now q v l) (joining net p b now q v m)
 unfolding joining joined_at
 same_joining net p b now q v l m s = subst (λ (x : Log). SameOut (joining net p b now q v l) (joining net p b now q v x)) (sym s.is) (go (has_joined l.joins q) (nat_lt max_tick tick))
   where
@@ -260,7 +275,7 @@ same_joining net p b now q v l m s = subst (λ (x : Log). SameOut (joining net p
     tick = max (suc l.settled) now
 
     n : Log
-    n = with_events l s.events
+    n = with_events l s.events s.forgets
 
     piece : Known
     piece = silence (suc l.settled) tick []
@@ -269,13 +284,13 @@ same_joining net p b now q v l m s = subst (λ (x : Log). SameOut (joining net p
     told log x y = joining_by net p b q v log (elim x [ true ↦ joins.Already | false ↦ elim y [ true ↦ joins.Exhausted | false ↦ joins.Logged tick piece ] ])
 
     still : SameLog l n
-    still = record { events = s.events; is = refl; past_same = s.past_same }
+    still = record { events = s.events; forgets = s.forgets; is = refl; past_same = s.past_same }
 
     u : View
     u = with_joins v (with_join l tick q).joins
 
     learned : SameOut (learn net p b piece u (with_join l tick q)) (learn net p b piece u (with_join n tick q))
-    learned = same_learn net p b piece u (with_join l tick q) (with_join n tick q) (record { events = s.events; is = refl; past_same = s.past_same })
+    learned = same_learn net p b piece u (with_join l tick q) (with_join n tick q) (record { events = s.events; forgets = s.forgets; is = refl; past_same = s.past_same })
 
     go : (x y : Bool) → SameOut (told l x y) (told n x y)
     go true y = record { log = n; is = refl; same = still }
@@ -392,7 +407,7 @@ same_sweep_for see net p w ls s =
     (λ rs r. wakes_on (followed_by (wakes w) downs).world rs r)
 
 -- the moment of a sweep
-same_moment : (net : Net) (w : World) (ls : List Log) → SameLogs w.logs ls → sweep_moment net (with_logs w ls) ≡ sweep_moment net w
+pub same_moment : (net : Net) (w : World) (ls : List Log) → SameLogs w.logs ls → sweep_moment net (with_logs w ls) ≡ sweep_moment net w
 unfolding sweep_moment
 same_moment net w ls s = ap (λ (ns : List ℕ). max w.most (greatest_settled ns) + net.gap + net.idle + net.retry + net.quiet + 1) (settled_same w.logs ls s)
   where
@@ -402,7 +417,7 @@ same_moment net w ls s = ap (λ (ns : List ℕ). max w.most (greatest_settled ns
     settled_same [] (m ∷ ms) s = absurd s
     settled_same (l ∷ ls) [] s = absurd s
 
-same_sweep : (see : View → Net) (net : Net) (k : ℕ) → Follows (λ w. sweep_by see net w k)
+pub same_sweep : (see : View → Net) (net : Net) (k : ℕ) → Follows (λ w. sweep_by see net w k)
 unfolding sweep_by
 same_sweep see net k w ls s =
     subst (λ (m : ℕ). SameTold (told w (sweep_moment net w)) (told (with_logs w ls) m)) (sym (same_moment net w ls s)) (go (nat_lt max_tick (sweep_moment net w)))
@@ -519,7 +534,7 @@ same_stopped see net k p number stop e w ls s = by_log (get_or ls p empty_log) r
       | false ↦ elim (nat_eq number (suc m.last) && nat_le at max_tick) [
         | false ↦ publish_now_by see net u p number e
         | true ↦
-            let kept = is_kept m.gate stop.call stop.pick in
+            let kept = is_kept (m.size - 1) stop.call stop.pick in
             let logs = if kept then set u.logs p (with_event m at e) else u.logs in
             record {
               world = restarted net (with_logs u logs) b;
@@ -531,7 +546,7 @@ same_stopped see net k p number stop e w ls s = by_log (get_or ls p empty_log) r
     by_log : (m : Log) → get_or ls p empty_log ≡ m → SameLog log m → SameTold (all log w) (all (get_or ls p empty_log) (with_logs w ls))
     by_log m x h =
         subst (λ (y : Log). SameTold (all log w) (all y (with_logs w ls))) (sym (x ∙ h.is))
-        (go (with_events log h.events) (record { events = h.events; is = refl; past_same = h.past_same }) (not_empty (net.subscribers_at b)) (nat_eq number (suc log.last) && nat_le tick max_tick) (is_kept log.gate stop.call stop.pick))
+        (go (with_events log h.events h.forgets) (record { events = h.events; forgets = h.forgets; is = refl; past_same = h.past_same }) (not_empty (net.subscribers_at b)) (nat_eq number (suc log.last) && nat_le tick max_tick) (is_kept (log.size - 1) stop.call stop.pick))
 
 -- a step
 pub same_next : (see : View → Net) (net : Net) (l : Line) → Follows (λ w. next_by see net w l)

@@ -19,7 +19,7 @@ use Rattle.gr_model_calls.specs.Fits.{WorldFits, StepIn, StepsIn}
 use Rattle.gr_model_calls.proofs.topology.Strays.{start_over}
 use Rattle.gr_model_theorems.specs.Spelled.{IsInLimits, NumbersIn, IsSpelled, WorldIn}
 use Rattle.gr_model_theorems.specs.Served.{IsOfBytes, steps_at, DoesStepsAt}
-use Rattle.gr_model_theorems.specs.Joint.{brokers_of, left_of, lefts_after, lefts_at_start, IsHonestJoint, HoldsJoint_by, AllDoStepsJoint, joint_comes_by, joint_from_by, joint_end_by}
+use Rattle.gr_model_theorems.specs.Joint.{brokers_of, left_of, lefts_after, lefts_at_start, IsHonestJoint, HoldsJoint_by, AllDoStepsJoint, joint_comes_by, joint_from_by}
 use Rattle.gr_model_theorems.proofs.limits.Spelled.{IsSmall, next_in, start_in}
 use Rattle.gr_model_theorems.proofs.records.Recorded.{begin_lines}
 use Rattle.gr_model_theorems.proofs.sweep.FirstUnknown.{unknowns_always}

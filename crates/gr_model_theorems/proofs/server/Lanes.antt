@@ -1,11 +1,9 @@
--- The headline holds over logs that code opens, since what is read from records that
--- follow one another is an old log, and the events that were cut change nothing
-use Rattle.std.proofs.Common.{◌≡◌, ℕ, suc, zero, ◌≤◌, Bool, true, false, List, [], ◌∷◌, ◌++◌, map, length, get_or, refl, sym, ap, ap₂, ◌∙◌, subst, Option, Some, None, Result, Ok, Err, append-nil, append_assoc, arith}
-use Rattle.std.specs.Prelude.{not, nat_eq, nat_lt, if◌then◌else◌, flat_map}
-use Rattle.std.specs.List.{list_any, list_all, AllByRecursion}
-use Rattle.std.proofs.lemmas.Bool.{and_from, and_parts, ne_eqb, lt-ltb}
-use Rattle.std.proofs.lemmas.List.Elements.{filter-append}
-use Rattle.gr_event.specs.declared.event.Event.{Event}
+-- Logs that forget lead to the same lines as logs that keep all: an opening, arrivals, and steps over both. And a log that was opened
+-- is an old log where it keeps its events
+use Rattle.std.proofs.Common.{◌≡◌, ℕ, suc, zero, ◌-◌, ◌≤◌, ◌<◌, Bool, true, false, List, [], ◌∷◌, ◌++◌, map, length, get_or, refl, sym, ap, ap₂, ◌∙◌, subst, Option, Some, None, Result, Ok, Err, arith}
+use Rattle.std.specs.Prelude.{not, if◌then◌else◌, flat_map}
+use Rattle.std.specs.List.{AllByRecursion}
+use Rattle.std.proofs.lemmas.Bool.{and_from, ne_eqb}
 use Rattle.gr_event.specs.Limits.{IsEvent}
 use Rattle.gr_frame.specs.declared.Frame.{Frame}
 use Rattle.gr_frame.specs.declared.fault.FrameFault.{FrameFault}
@@ -15,155 +13,108 @@ use Rattle.gr_note.specs.declared.fault.NoteFault.{NoteFault}
 use Rattle.gr_note.specs.Fault as note
 use Rattle.gr_note.specs.Bytes.{begins_note}
 use Rattle.gr_note.specs.Decode.{note_decoded}
-use Rattle.gr_publog.specs.declared.record.Record.{Record}
-use Rattle.gr_publog.specs.declared.record.Record.TheVariants as entry
-use Rattle.gr_publog.specs.State.{Standing, stands_after, standing_from, standing_of, may_settle, may_enter, may_follow, IsSound, HasRoom, first_standing, state_of, events_past, live_events, Follow}
-use Rattle.gr_pubend.specs.Log.{with_entry, log_from}
-use Rattle.gr_pubend.specs.Log as lane
-use Rattle.gr_pubend.specs.Opening.{pairs}
-use Rattle.gr_pubend.specs.Found.{found_of, PairsRise, IsLive, IsSettled}
-use Rattle.gr_pubend.proofs.Knowing.{log_joins}
-use Rattle.gr_pubend.proofs.Found.{gate_of, found_settled}
-use Rattle.gr_pubend.proofs.Opening.{opened}
+use Rattle.gr_publog.specs.declared.record.Entry.{Entry}
+use Rattle.gr_publog.specs.declared.steps.Aside.TheVariants.{Short}
+use Rattle.gr_publog.specs.State.{LogState, empty_state, EventsRise, EventsUpto, AreLate, AreHeld, IsState}
+use Rattle.gr_publog.specs.Views.{LogView}
+use Rattle.gr_publog.proofs.Entering.{held_first}
+use Rattle.gr_pubend.specs.Log.{fresh_log, pairs, said}
 use Rattle.gr_sched.specs.declared.step.Line.{Line}
 use Rattle.gr_model.specs.declared.report.Report.{Report}
 use Rattle.gr_model.specs.declared.report.Report.TheVariants as line
-use Rattle.gr_model.specs.Net.{Net, keeps_horizon, not_empty, numbers}
-use Rattle.gr_model.specs.Broker.{View, Log, empty_log, with_event, max_tick, learn, started}
-use Rattle.gr_model.specs.World.{World, Transition, view_of, log_of, unchanged, in_turn, absorbed, kept_events, wake_all_by, deliver_frame_by, publish_now_by, next_by, run_all_by, run_from_by}
-use Rattle.gr_model_calls.specs.OneNet.{run_from, served, Holds_from}
-use Rattle.gr_model.specs.Opening.{reopened_log, over_logs, reopened_line, publishers_at, begin_over, opened_for_by, opening_by}
+use Rattle.gr_model.specs.Net.{Net, is_late, all_late, keeps_horizon, not_empty, numbers}
+use Rattle.gr_model.specs.Broker.{View, Log, empty_log, max_tick, learn, log_know, seen, started}
+use Rattle.gr_model.specs.World.{World, Transition, view_of, log_of, unchanged, in_turn, absorbed, kept_events, sweep_moment, start_by, wake_all_by, deliver_frame_by, publish_now_by, sweep_by, next_by, run_all_by, run_from_by}
+use Rattle.gr_model.specs.Opening.{reopened_log, over_logs, reopened_line, publishers_at, opened_for_by, opening_by}
 use Rattle.gr_model.specs.Arrivals.{asks_publish, asks_join, joins_in, split_line, Arrival, datagram, quiet, Publish, requests_of, left_after, at_moment, fits_broker, least_clash, clash_line, fault_number, publisher_of, submitted_in, is_hosted, show_hosted, takes_by, receives_by, notes_by, quieted_by, comes_by, served_from_by, arrived_by, served_by, reads_by, answered_first_by, Request}
-use Rattle.gr_model.specs.Tree.{IsNet}
 use Rattle.gr_model_calls.specs.Said.{said_at, TicksRise}
-use Rattle.gr_model_calls.specs.Fits.{StepsIn}
-use Rattle.gr_model_theorems.specs.Spelled.{NumbersIn}
 use Rattle.gr_model_theorems.specs.Found.{IsReopened, AreReopened}
-use Rattle.gr_model_theorems.specs.Statements.{opened_over}
-use Rattle.gr_model_theorems.specs.Lanes.{AllFollow, whole_logs, found_logs, past_cut, DifferInCut, CutEventsSilent_by}
-use Rattle.gr_model_theorems.proofs.limits.Spelled.{IsSmall}
+use Rattle.gr_model_theorems.specs.Forgets.{SameLog, SameLogs, DifferInCut, TellTheSame, StepsTellTheSame, ForgetTheSame, keeping, kept_logs, WasOpened, AllOpened, OpenedTheSame_by}
 use Rattle.gr_model_theorems.proofs.records.Recorded.{get_map}
 use Rattle.gr_model_calls.proofs.runs.Closed.{with_logs}
-use Rattle.gr_model_theorems.proofs.server.CutEvents.{with_events, past, SameLog, SameLogs, same_get, same_started, same_learn, SameTold, Follows, same_absorbed, same_unchanged, same_after, same_in_turn, same_wake_all, same_deliver, same_publish_now, same_next, same_run, same_join_now}
-use Rattle.gr_model_theorems.proofs.server.OverLogs.{headline_over_logs}
+use Rattle.gr_model_theorems.proofs.server.CutEvents.{same_get, same_started, same_learn, SameTold, Follows, same_absorbed, same_unchanged, same_after, same_in_turn, same_wake_all, same_deliver, same_publish_now, same_next, same_moment, same_sweep, same_run, same_join_now}
 use Rattle.gr_event.specs.declared.limits.TheConstants.{MAX_JOINS}
-use Rattle.gr_event.specs.Joins.{first_split, Joins, has_joined, AreJoins}
-use Rattle.gr_event.specs.declared.join.Join.{Join}
+use Rattle.gr_event.specs.Joins.{first_split, Joins}
 use Rattle.gr_event.specs.declared.join.Split.{Split}
-use Rattle.gr_publog.proofs.Joins.{room_first, room_after, may_stand}
-use Rattle.gr_event.proofs.Joining.{joins_with}
-use Rattle.gr_frame.proofs.Lists.{none_are}
-use Rattle.gr_model_theorems.proofs.server.ServedOver.{headline_served}
 
--- What is found is an old log
+-- A log that was opened is an old log, where it keeps its events
 
-said_none : (cut settled t : ℕ) (xs : List (ℕ × Event)) → AllByRecursion (IsLive cut settled) xs → ((x : ℕ × Event) → IsLive cut settled x → nat_eq x.0 t ≡ false) → said_at xs t ≡ None
-said_none cut settled t [] a h = refl
-said_none cut settled t (x ∷ xs) a h = ap (λ (b : Bool). if b then Some x.1 else said_at xs t) (h x a.0) ∙ said_none cut settled t xs a.1 h
+-- ticks that rise from above a cut rise from above what is less
+rise_low : (cut number low : ℕ) (es : List Entry) → low ≤ cut → EventsRise cut number es → TicksRise low (pairs es)
+rise_low cut number low [] l r = tt
+rise_low cut number low (e ∷ es) l r = (omega (arith, l, r.0), rise_low e.tick e.number e.tick es (omega arith) r.1.1)
 
-rise_low : (from low : ℕ) (xs : List (ℕ × Event)) → low ≤ from → PairsRise from xs → TicksRise low xs
-rise_low from low [] l r = tt
-rise_low from low (x ∷ xs) l r = (omega (arith, l, r.0), rise_low x.0 x.0 xs (omega arith) r.1)
+-- no event is up to the cut
+none_cut : (cut number t : ℕ) (es : List Entry) → t ≤ cut → EventsRise cut number es → said_at (pairs es) t ≡ None
+none_cut cut number t [] l r = refl
+none_cut cut number t (e ∷ es) l r =
+    ap (λ (b : Bool). if b then Some e.event else said_at (pairs es) t) (ne_eqb e.tick t (λ h. omega (arith, l, h, r.0)))
+    ∙ none_cut e.tick e.number t es (omega (arith, l, r.0)) r.1.1
 
-events_in : (cut settled : ℕ) (xs : List (ℕ × Event)) → settled ≤ max_tick → AllByRecursion (IsLive cut settled) xs → AllByRecursion (λ x. (x.0 ≤ max_tick) × IsEvent x.1) xs
-events_in cut settled [] l a = tt
-events_in cut settled (x ∷ xs) l a = ((omega (arith, l, a.0.upto), a.0.event), events_in cut settled xs l a.1)
+-- none is past what is settled
+none_past : (settled t : ℕ) (es : List Entry) → settled < t → EventsUpto settled es → said_at (pairs es) t ≡ None
+none_past settled t [] l u = refl
+none_past settled t (e ∷ es) l u =
+    ap (λ (b : Bool). if b then Some e.event else said_at (pairs es) t) (ne_eqb e.tick t (λ h. omega (arith, l, h, u.0)))
+    ∙ none_past settled t es l u.1
 
--- Joins of records that follow one another: they are a list of late subscribers, and leave room for each that has not joined
-record JoinsStand (s : Standing) : Type 0 where
-  are : AreJoins s.joins
-  room : HasRoom s
-  among : list_all (λ j. list_any (λ x. nat_eq x j.subscriber) s.late) s.joins ≡ true
+events_in : (settled : ℕ) (es : List Entry) → settled ≤ max_tick → EventsUpto settled es → AllByRecursion (λ e. IsEvent e.event) es → AllByRecursion (λ x. (x.0 ≤ max_tick) × IsEvent x.1) (pairs es)
+events_in settled [] l u a = tt
+events_in settled (e ∷ es) l u a = ((omega (arith, l, u.0), a.0), events_in settled es l u.1 a.1)
 
-among_more : (late : List ℕ) (js : Joins) (j : Join) → list_all (λ k. list_any (λ x. nat_eq x k.subscriber) late) js ≡ true → list_any (λ x. nat_eq x j.subscriber) late ≡ true → list_all (λ k. list_any (λ x. nat_eq x k.subscriber) late) (js ++ j ∷ []) ≡ true
-among_more late [] j a b = and_from (list_any (λ x. nat_eq x j.subscriber) late) true b refl
-among_more late (k ∷ js) j a b =
-    let test : Join → Bool = λ i. list_any (λ x. nat_eq x i.subscriber) late in
-    let parts = and_parts (test k) (list_all test js) a in
-    and_from (test k) (list_all test (js ++ j ∷ [])) parts.0 (among_more late js j parts.1 b)
+joins_late : (net : Net) (js : Joins) → AreLate net.late js → all_late net js ≡ true
+joins_late net [] a = refl
+joins_late net (j ∷ js) a = and_from (is_late net j.subscriber) (all_late net js) a.0 (joins_late net js a.1)
 
-stand_after : (s : Standing) (r : Record) → may_follow s r ≡ true → IsSound r → JoinsStand s → JoinsStand (stands_after s r)
-stand_after s (entry.Event tick number e) may sound h = record { are = h.are; room = room_after s (entry.Event tick number e) h.room may; among = h.among }
-stand_after s (entry.Mark tick) may sound h = record { are = h.are; room = room_after s (entry.Mark tick) h.room may; among = h.among }
-stand_after s (entry.Cut tick) may sound h = record { are = h.are; room = room_after s (entry.Cut tick) h.room may; among = h.among }
-stand_after s (entry.Join tick x) may sound h =
-    let enters = and_parts (list_any (λ y. nat_eq y x) s.late) (not (has_joined s.joins x)) (and_parts (may_settle s.state tick) (may_enter s x) may).1 in
+opened_is : (net : Net) (l : LogView) → IsState l.state → l.state.late ≡ net.late → IsReopened net (keeping (said l))
+opened_is net l h e =
+    let s : LogState = l.state in
+    let held : AreHeld net.late s.joins s.settled = subst (λ (late : List ℕ). AreHeld late s.joins s.settled) e h.held in
     record {
-      are = joins_with s.joins (record { subscriber = x; tick = tick }) h.are (may_stand s tick x h.room may) sound;
-      room = room_after s (entry.Join tick x) h.room may;
-      among = among_more s.late s.joins (record { subscriber = x; tick = tick }) h.among enters.0;
+      fits = record {
+        rise = rise_low s.cut (s.last - length s.events) 0 s.events (omega arith) h.rise;
+        past = λ t past. none_past s.settled t s.events past h.upto;
+        cut = h.cut;
+        keeps = refl;
+      };
+      past_cut = λ t upto. none_cut s.cut (s.last - length s.events) t s.events upto h.rise;
+      late = joins_late net s.joins held.known;
+      within = record { settled = h.settled; cut = omega (arith, h.cut, h.settled); events = events_in s.settled s.events h.settled h.upto h.events; held = held };
     }
 
-stand_all : (s : Standing) (rs : List Record) → Follow s rs → JoinsStand s → JoinsStand (standing_from s rs)
-stand_all s [] f h = record { are = h.are; room = record { few = h.room.few; room = h.room.room; last = h.room.last }; among = h.among }
-stand_all s (r ∷ rs) f h = stand_all (stands_after s r) rs f.2 (stand_after s r f.0 f.1 h)
+-- what is said of a log of code is said of one that was opened
+pub was_opened : (late : List ℕ) (l : LogView) → IsState l.state → l.state.late ≡ late → WasOpened late (said l)
+was_opened late l h e = record { view = l; state = h; late = e; says = refl }
 
-joins_found : (late : List ℕ) (rs : List Record) → length late ≤ MAX_JOINS → Follow (first_standing late) rs → JoinsStand (standing_of late rs)
-joins_found late rs few f = stand_all (first_standing late) rs f (record { are = none_are; room = room_first late few; among = refl })
-
--- the log that is found of them is an old log
-found_by : (net : Net) (rs : List Record) → length net.late ≤ MAX_JOINS → Follow (first_standing net.late) rs → IsSettled (found_of rs) → IsReopened net (found_of rs)
-found_by net rs few f s = let log : Log = found_of rs in let j = joins_found net.late rs few f in record {
-  fits = record {
-    rise = rise_low log.cut 0 log.events (omega arith) s.rise;
-    past = λ t l. said_none log.cut log.settled t log.events s.live (λ x a. ne_eqb x.0 t (λ e. omega (arith, l, e, a.upto)));
-    cut = s.cut;
-  };
-  past_cut = λ t l. said_none log.cut log.settled t log.events s.live (λ x a. ne_eqb x.0 t (λ e. omega (arith, l, e, a.past)));
-  within = record { settled = s.settled; cut = omega (arith, s.cut, s.settled); events = events_in log.cut log.settled log.events s.settled s.live; joins = j.are; room = record { few = j.room.few; room = j.room.room; last = j.room.last } };
-  late = j.among;
+-- so is it where nothing was logged, whether that forgets or not
+pub empty_opened : (late : List ℕ) (forgets : Bool) → length late ≤ MAX_JOINS → WasOpened late (fresh_log forgets)
+empty_opened late forgets few = record {
+  view = record { lane = 0; state = empty_state late; broken = false; second = false; generation = 1; size = 33; aside = Short };
+  state = record { rise = tt; count = omega arith; upto = tt; cut = omega arith; settled = omega arith; low = omega arith; events = tt; apart = tt; held = held_first late 0 few };
+  late = refl;
+  says = refl;
 }
 
-follow_at : (late : List ℕ) (lanes : List (List Record)) (p : ℕ) → AllFollow late lanes → Follow (first_standing late) (get_or lanes p [])
-follow_at late [] p a = tt
-follow_at late (rs ∷ lanes) zero a = a.0
-follow_at late (rs ∷ lanes) (suc p) a = follow_at late lanes p a.1
+kept_at : (logs : List Log) (p : ℕ) → reopened_log (kept_logs logs) p ≡ keeping (reopened_log logs p)
+kept_at logs p = get_map keeping logs p empty_log
 
-found_at : (lanes : List (List Record)) (p : ℕ) → reopened_log (found_logs lanes) p ≡ found_of (get_or lanes p [])
-found_at lanes p = get_map found_of lanes p []
+opened_at : (late : List ℕ) (logs : List Log) (p : ℕ) → length late ≤ MAX_JOINS → AllOpened late logs → WasOpened late (reopened_log logs p)
+opened_at late [] p few a = empty_opened late false few
+opened_at late (l ∷ logs) zero few a = a.0
+opened_at late (l ∷ logs) (suc p) few a = opened_at late logs p few a.1
 
-whole_at : (lanes : List (List Record)) (p : ℕ) → reopened_log (whole_logs lanes) p ≡ lane.log_of (get_or lanes p [])
-whole_at lanes p = get_map lane.log_of lanes p []
+-- logs that were opened are old logs, where they keep their events
+pub are_found : (net : Net) (logs : List Log) → length net.late ≤ MAX_JOINS → AllOpened net.late logs → AreReopened net (kept_logs logs)
+are_found net logs few a p =
+    let o = opened_at net.late logs p few a in
+    subst (IsReopened net) (sym (kept_at logs p ∙ o.says)) (opened_is net o.view o.state o.late)
 
--- so the logs that are found of lanes are old logs
-pub are_found : (net : Net) (lanes : List (List Record)) → length net.late ≤ MAX_JOINS → AllFollow net.late lanes → AreReopened net (found_logs lanes)
-are_found net lanes few a p =
-    let rs = get_or lanes p [] in
-    let f = follow_at net.late lanes p a in
-    subst (IsReopened net) (sym (found_at lanes p)) (found_by net rs few f (found_settled net.late rs f))
+-- a log is one that keeps its events but for its flag
+keeping_same : (l : Log) → SameLog (keeping l) l
+keeping_same l = record { events = l.events; forgets = l.forgets; is = refl; past_same = refl }
 
--- The log of all records has the same events past its cut
-
-past_of : (cut : ℕ) (log : Log) (rs : List Record) → (let l : Log = log_from log rs in past cut l.events) ≡ past cut log.events ++ pairs (events_past cut rs)
-past_of cut log [] = sym (append-nil (past cut log.events))
-past_of cut log (entry.Event tick number e ∷ rs) =
-    past_of cut (with_event log tick e) rs ∙ (ap (λ (z : List (ℕ × Event)). z ++ pairs (events_past cut rs)) (filter-append (λ x. nat_lt cut x.0) log.events ((tick, e) ∷ [])) ∙ go (nat_lt cut tick))
-  where
-    go : (b : Bool) → (past cut log.events ++ (if b then (tick, e) ∷ [] else [])) ++ pairs (events_past cut rs) ≡ past cut log.events ++ pairs (if b then record { tick = tick; number = number; event = e } ∷ events_past cut rs else events_past cut rs)
-    go true = append_assoc (past cut log.events) ((tick, e) ∷ []) (pairs (events_past cut rs))
-    go false = ap (λ (z : List (ℕ × Event)). z ++ pairs (events_past cut rs)) (append-nil (past cut log.events))
-past_of cut log (entry.Mark tick ∷ rs) = past_of cut (with_entry log (entry.Mark tick)) rs
-past_of cut log (entry.Cut tick ∷ rs) = past_of cut (with_entry log (entry.Cut tick)) rs
-past_of cut log (entry.Join tick s ∷ rs) = past_of cut (with_entry log (entry.Join tick s)) rs
-
-past_live : (cut settled : ℕ) (xs : List (ℕ × Event)) → AllByRecursion (IsLive cut settled) xs → past cut xs ≡ xs
-past_live cut settled [] a = refl
-past_live cut settled (x ∷ xs) a = rw (lt-ltb cut x.0 a.0.past) (ap (λ (z : List (ℕ × Event)). x ∷ z) (past_live cut settled xs a.1))
-
-found_whole : (late : List ℕ) (rs : List Record) → Follow (first_standing late) rs → SameLog (found_of rs) (lane.log_of rs)
-found_whole late rs f =
-    let s = (opened late rs f).stays in
-    let whole : Log = lane.log_of rs in
-    record {
-      events = whole.events;
-      is = λ i. record { last = s.last i; settled = s.settled i; cut = s.cut i; events = whole.events; joins = log_joins rs i; gate = gate_of rs i };
-      past_same = past_of (state_of rs).cut empty_log rs ∙ sym (past_live (state_of rs).cut (state_of rs).settled (pairs (live_events rs)) (found_settled late rs f).live);
-    }
-
-lanes_same : (late : List ℕ) (lanes : List (List Record)) (p : ℕ) → AllFollow late lanes → SameLog (reopened_log (found_logs lanes) p) (reopened_log (whole_logs lanes) p)
-lanes_same late lanes p a =
-    subst (λ (l : Log). SameLog l (reopened_log (whole_logs lanes) p)) (sym (found_at lanes p))
-    (subst (λ (m : Log). SameLog (found_of (get_or lanes p [])) m) (sym (whole_at lanes p)) (found_whole late (get_or lanes p []) (follow_at late lanes p a)))
+kept_same : (logs : List Log) (p : ℕ) → SameLog (reopened_log (kept_logs logs) p) (reopened_log logs p)
+kept_same logs p = subst (λ (l : Log). SameLog l (reopened_log logs p)) (sym (kept_at logs p)) (keeping_same (reopened_log logs p))
 
 -- The opening
 
@@ -270,7 +221,7 @@ same_reads see net b bytes w ls s = go (begins_note bytes)
     go true = same_notes see net b (note_decoded bytes) w ls s
     go false = same_receives see net b (frame_decoded bytes) w ls s
 
-same_comes : (see : View → Net) (net : Net) (hosted : List ℕ) (left : List Request) (a : Arrival) → Follows (λ w. comes_by see net hosted w left a)
+pub same_comes : (see : View → Net) (net : Net) (hosted : List ℕ) (left : List Request) (a : Arrival) → Follows (λ w. comes_by see net hosted w left a)
 unfolding comes_by
 same_comes see net hosted left (datagram b bytes moment) w ls s = same_reads see net b bytes (at_moment w moment) ls s
 same_comes see net hosted left (quiet moment) w ls s = same_quieted see net hosted left (at_moment w moment) ls s
@@ -302,21 +253,33 @@ same_served_from see net hosted left (a ∷ arrivals) w ls s =
 
 -- Worlds
 
-past_cut_same : (l m : Log) → SameLog l m → past_cut m ≡ past_cut l
-past_cut_same l m s = ap past_cut s.is ∙ ap (with_events l) s.past_same
-
--- what is found is the log of all records without the events up to the cut
-pub found_is_past : (late : List ℕ) (rs : List Record) → Follow (first_standing late) rs → past_cut (lane.log_of rs) ≡ found_of rs
-found_is_past late rs f = past_cut_same (found_of rs) (lane.log_of rs) (found_whole late rs f) ∙ ap (with_events (found_of rs)) (past_live (state_of rs).cut (state_of rs).settled (pairs (live_events rs)) (found_settled late rs f).live)
-
-same_past : (ls ms : List Log) → SameLogs ls ms → map past_cut ms ≡ map past_cut ls
-same_past [] [] s = refl
-same_past (l ∷ ls) (m ∷ ms) s = ap₂ (λ (x : Log) (xs : List Log). x ∷ xs) (past_cut_same l m s.0) (same_past ls ms s.1)
-same_past [] (m ∷ ms) s = absurd s
-same_past (l ∷ ls) [] s = absurd s
-
 differ : (w : World) (ls : List Log) → SameLogs w.logs ls → DifferInCut w (with_logs w ls)
-differ w ls s = record { clock = refl; most = refl; frames = refl; views = refl; logs = same_past w.logs ls s }
+differ w ls s = record { clock = refl; most = refl; frames = refl; views = refl; logs = s }
+
+-- the second of two such worlds is the first with other logs
+pub differ_is : (w u : World) → DifferInCut w u → u ≡ with_logs w u.logs
+differ_is w u d = λ i. record { clock = d.clock i; most = d.most i; frames = d.frames i; views = d.views i; logs = u.logs }
+
+tell_same : (t u : Transition) → SameTold t u → TellTheSame t u
+tell_same t u k = record {
+  lines = ap (λ (x : Transition). x.lines) k.is;
+  worlds = subst (λ (x : Transition). DifferInCut t.world x.world) (sym k.is) (differ t.world k.logs k.same);
+}
+
+-- what follows over other logs tells the same from two such worlds
+pub tells_same : (f : World → Transition) (w u : World) → Follows f → DifferInCut w u → TellTheSame (f w) (f u)
+tells_same f w u follows d = subst (λ (x : World). TellTheSame (f w) (f x)) (sym (differ_is w u d)) (tell_same (f w) (f (with_logs w u.logs)) (follows w u.logs d.logs))
+
+pub steps_same : StepsTellTheSame
+steps_same net w u l d = tells_same (λ x. next_by (seen net) net x l) w u (same_next (seen net) net l) d
+
+-- a sweep does as well
+pub sweeps_same : (net : Net) (k : ℕ) (w u : World) → DifferInCut w u → TellTheSame (sweep_by (seen net) net w k) (sweep_by (seen net) net u k)
+sweeps_same net k w u d = tells_same (λ x. sweep_by (seen net) net x k) w u (same_sweep (seen net) net k) d
+
+-- and has the same moment
+pub moment_same : (net : Net) (w u : World) → DifferInCut w u → sweep_moment net u ≡ sweep_moment net w
+moment_same net w u d = ap (sweep_moment net) (differ_is w u d) ∙ same_moment net w u.logs d.logs
 
 same_stepped : (see : View → Net) (net : Net) (steps : List Line) (w : World) (ls : List Log) → SameLogs w.logs ls → DifferInCut (run_all_by see net w steps).world (run_all_by see net (with_logs w ls) steps).world
 same_stepped see net [] w ls s = differ w ls s
@@ -332,37 +295,52 @@ same_arrived see net hosted left (a ∷ arrivals) w ls s =
     let t : Transition = comes_by see net hosted w left a in
     subst (λ (u : Transition). DifferInCut (arrived_by see net hosted t.world (left_after left a) arrivals) (arrived_by see net hosted u.world (left_after left a) arrivals)) (sym k.is) (same_arrived see net hosted (left_after left a) arrivals t.world k.logs k.same)
 
--- Lanes
+-- The start
 
-pub opened_same : (see : View → Net) (net : Net) (late : List ℕ) (lanes : List (List Record)) → AllFollow late lanes → SameTold (opening_by see net (numbers net.brokers) (found_logs lanes)) (opening_by see net (numbers net.brokers) (whole_logs lanes))
-opened_same see net late lanes a = same_opening see net (numbers net.brokers) (found_logs lanes) (whole_logs lanes) (λ p. lanes_same late lanes p a)
+fresh_same : (ps : List ℕ) → SameLogs (map (λ p. fresh_log false) ps) (map (λ p. fresh_log true) ps)
+fresh_same [] = tt
+fresh_same (p ∷ ps) = (record { events = []; forgets = true; is = refl; past_same = refl }, fresh_same ps)
 
-pub lines_same : (see : View → Net) (net : Net) (late : List ℕ) (lanes : List (List Record)) (steps : List Line) → AllFollow late lanes → run_from_by see net (opening_by see net (numbers net.brokers) (whole_logs lanes)).world steps ≡ run_from_by see net (opening_by see net (numbers net.brokers) (found_logs lanes)).world steps
-lines_same see net late lanes steps a =
-    let k = opened_same see net late lanes a in
-    ap (λ (t : Transition). run_from_by see net t.world steps) k.is ∙ same_run see net (opening_by see net (numbers net.brokers) (found_logs lanes)).world k.logs steps k.same
+begun_same : (net : Net) → start_by true net ≡ with_logs (start_by false net) (map (λ p. fresh_log true) (numbers net.publishers))
+unfolding start_by started log_know
+begun_same net = refl
 
-pub served_lanes : (see : View → Net) (net : Net) (late : List ℕ) (lanes : List (List Record)) (steps : List Line) (arrivals : List Arrival) → AllFollow late lanes → served_by see net (numbers net.brokers) (whole_logs lanes) steps arrivals ≡ served_by see net (numbers net.brokers) (found_logs lanes) steps arrivals
+begun_logs : (net : Net) → SameLogs (start_by false net).logs (map (λ p. fresh_log true) (numbers net.publishers))
+unfolding start_by
+begun_logs net = fresh_same (numbers net.publishers)
+
+pub started_same : (net : Net) (steps : List Line) → ForgetTheSame net steps
+started_same net steps =
+    let w : World = start_by false net in
+    let ls : List Log = map (λ p. fresh_log true) (numbers net.publishers) in
+    record {
+      lines = ap (λ (u : World). run_from_by (seen net) net u steps) (begun_same net) ∙ same_run (seen net) net w ls steps (begun_logs net);
+      worlds = subst (λ (u : World). DifferInCut (run_all_by (seen net) net w steps).world (run_all_by (seen net) net u steps).world) (sym (begun_same net)) (same_stepped (seen net) net steps w ls (begun_logs net));
+    }
+
+-- Logs that were opened
+
+opened_same : (see : View → Net) (net : Net) (hosted : List ℕ) (logs : List Log) → SameTold (opening_by see net hosted (kept_logs logs)) (opening_by see net hosted logs)
+opened_same see net hosted logs = same_opening see net hosted (kept_logs logs) logs (kept_same logs)
+
+served_is : (see : View → Net) (net : Net) (hosted : List ℕ) (logs : List Log) (steps : List Line) (arrivals : List Arrival) → served_by see net hosted logs steps arrivals ≡ served_by see net hosted (kept_logs logs) steps arrivals
 unfolding served_by
-served_lanes see net late lanes steps arrivals a =
-    let k = opened_same see net late lanes a in
-    let all : List ℕ = numbers net.brokers in
-    let o : Transition = opening_by see net (numbers net.brokers) (found_logs lanes) in
-    ap (λ (t : Transition). t.lines ∷ served_from_by see net all t.world (requests_of net all steps) arrivals) k.is
-    ∙ ap (λ (rs : List (List Report)). o.lines ∷ rs) (same_served_from see net all (requests_of net all steps) arrivals o.world k.logs k.same)
+served_is see net hosted logs steps arrivals =
+    let k = opened_same see net hosted logs in
+    let o : Transition = opening_by see net hosted (kept_logs logs) in
+    ap (λ (t : Transition). t.lines ∷ served_from_by see net hosted t.world (requests_of net hosted steps) arrivals) k.is
+    ∙ ap (λ (rs : List (List Report)). o.lines ∷ rs) (same_served_from see net hosted (requests_of net hosted steps) arrivals o.world k.logs k.same)
 
--- a run over reopened logs is the same whether the events that were cut are kept or not
-pub cut_events_silent : (see : View → Net) (net : Net) (late : List ℕ) (lanes : List (List Record)) → AllFollow late lanes → CutEventsSilent_by see net lanes
-cut_events_silent see net late lanes a =
-    let k = opened_same see net late lanes a in
-    let all : List ℕ = numbers net.brokers in
-    let o : Transition = opening_by see net all (found_logs lanes) in
+pub opened_the_same : (see : View → Net) (net : Net) (hosted : List ℕ) (logs : List Log) → OpenedTheSame_by see net hosted logs
+opened_the_same see net hosted logs =
+    let k = opened_same see net hosted logs in
+    let o : Transition = opening_by see net hosted (kept_logs logs) in
     record {
       opened = ap (λ (t : Transition). t.lines) k.is;
       stepped = λ steps. subst (λ (t : Transition). DifferInCut (run_all_by see net o.world steps).world (run_all_by see net t.world steps).world) (sym k.is) (same_stepped see net steps o.world k.logs k.same);
-      lines = λ steps. lines_same see net late lanes steps a;
-      served_same = λ steps arrivals. served_lanes see net late lanes steps arrivals a;
+      lines = λ steps. ap (λ (t : Transition). run_from_by see net t.world steps) k.is ∙ same_run see net o.world k.logs steps k.same;
+      served_same = λ steps arrivals. served_is see net hosted logs steps arrivals;
       arrived_same = λ steps arrivals.
-          let left : List Request = requests_of net all steps in
-          subst (λ (t : Transition). DifferInCut (arrived_by see net all o.world left arrivals) (arrived_by see net all t.world left arrivals)) (sym k.is) (same_arrived see net all left arrivals o.world k.logs k.same);
+          let left : List Request = requests_of net hosted steps in
+          subst (λ (t : Transition). DifferInCut (arrived_by see net hosted o.world left arrivals) (arrived_by see net hosted t.world left arrivals)) (sym k.is) (same_arrived see net hosted left arrivals o.world k.logs k.same);
     }

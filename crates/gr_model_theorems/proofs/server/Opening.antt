@@ -18,7 +18,7 @@ use Rattle.gr_curio.specs.Values.{Wanted, wanted_at, is_A}
 use Rattle.gr_model.specs.declared.report.Report.{Report}
 use Rattle.gr_model.specs.declared.report.Report.TheVariants as line
 use Rattle.gr_model.specs.Net.{all_late, Net, keeps_horizon, not_empty, is_empty, numbers}
-use Rattle.gr_model.specs.Broker.{with_joins, drops, View, Log, Outcome, empty_log, head, learn, receive, clashes, new_ticks, forward, forward_frames, know_frames, started}
+use Rattle.gr_model.specs.Broker.{with_joins, drops, View, Log, Outcome, empty_log, head, learn, receive, new_ticks, forward, forward_frames, know_frames, started}
 use Rattle.gr_model.specs.World.{World, Transition, blank_view, view_of, log_of, absorbed, unchanged, in_turn, sent_lines, deliver_frame_by}
 use Rattle.gr_model_calls.specs.OneNet.{deliver_frame, opened_for}
 use Rattle.gr_model.specs.Opening.{reopened_log, over_logs, reopened_line, opened_for_by}
@@ -29,7 +29,7 @@ use Rattle.gr_model.specs.Tree.{IsNet, IsSubscriber}
 use Rattle.gr_model_calls.specs.Fits.{facts, facts_of, reached_in, LogFits, ViewTrue, CutTrue, HostKnows, FrameTrue, AllFramesTrue, WorldFits, LinesFit}
 use Rattle.gr_model.specs.Headline.{is_sent}
 use Rattle.gr_model_calls.proofs.calls.CallTruth.{new_ticks-is, forward-is}
-use Rattle.gr_model_calls.proofs.runs.Clash.{nothing_drops, true_pieces}
+use Rattle.gr_model_calls.proofs.runs.Clash.{nothing_drops}
 use Rattle.gr_model_calls.proofs.runs.Worlds.{Each, absorbed_changed, deliver_kept, silent_lines, reached_here}
 use Rattle.gr_model_calls.proofs.runs.Schedules.{started_holds, get_numbers, length_numbers, started_true, started_known}
 use Rattle.gr_model_calls.proofs.calls.Telling.{Neutral-nil, Silent}

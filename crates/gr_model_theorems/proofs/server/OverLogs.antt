@@ -17,7 +17,7 @@ use Rattle.gr_model.specs.Tree.{IsNet}
 use Rattle.gr_model_calls.specs.Fits.{StepsIn}
 use Rattle.gr_model_calls.proofs.runs.Worlds.{Each, numbers_below}
 use Rattle.gr_model_calls.proofs.runs.Schedules.{get_numbers}
-use Rattle.gr_model_theorems.proofs.records.Gates.{over_gates}
+use Rattle.gr_model_theorems.proofs.records.Stored.{over_stored}
 use Rattle.gr_model_theorems.proofs.records.Records.{HasLine, has_filter, has_flat, has_number, core}
 use Rattle.gr_model_calls.proofs.runs.Closed.{Each-kept}
 use Rattle.gr_model_calls.proofs.asks.AskMoments.{AsksUpto, ExpectFits, Each-on}
@@ -98,7 +98,7 @@ opened_stands net logs n a =
         host = λ p j. o.asks (net.host p) p (n.host_in p j) j;
         sent = subst (λ (z : List Frame). Each (ExpectFits net) z) (sym o.frames) tt;
       };
-      gates = over_gates net w logs ls log;
+      stored = over_stored net w logs ls log;
     }
 
 opened_hears : (net : Net) (logs : List Log) → IsNet net → AreReopened net logs → Hears net (all_opened net logs).world (begin_over net logs (all_opened net logs).lines).heard

@@ -18,8 +18,8 @@ use Rattle.gr_sched.specs.declared.step.Line.{Line}
 use Rattle.gr_know.specs.Values.{Known, known_at, is_Q, join_K}
 use Rattle.gr_curio.specs.Values.{Wanted, wanted_at, is_C, is_A}
 use Rattle.gr_model.specs.Net.{Net, is_host, keeps_horizon, numbers}
-use Rattle.gr_model.specs.Broker.{joining, with_join, with_joins, drops, View, Log, Outcome, empty_log, all_A, any_C, horizon_if, is_reached, is_consolidated_by, new_ticks, forward, still_wanted, forward_wants, learn, asking, expect, curiosity, curious, stored, acknowledged, place_of, publish, silence, with_event, with_mark, marking, wake, wake_host, wake_below, receive, clashes, noted, due, started}
-use Rattle.gr_model.specs.World.{join_now_by, World, blank_view, view_of, log_of, absorbed, restarted, start, deliver_frame_by, publish_now_by, wake_for_by}
+use Rattle.gr_model.specs.Broker.{joining, with_join, with_joins, drops, View, Log, Outcome, empty_log, all_A, any_C, horizon_if, is_reached, is_consolidated_by, new_ticks, forward, still_wanted, forward_wants, learn, asking, expect, curiosity, curious, stored, acknowledged, place_of, publish, silence, with_event, with_mark, marking, wake, wake_host, wake_below, receive, noted, due, started}
+use Rattle.gr_model.specs.World.{join_now_by, World, blank_view, view_of, log_of, absorbed, restarted, start, start_by, deliver_frame_by, publish_now_by, wake_for_by}
 use Rattle.gr_model_calls.specs.OneNet.{join_now, wake_for, deliver_frame, publish_now, run_all}
 use Rattle.gr_model_calls.specs.Truth.{Grows, HasEvent, Facts, KnowsTruth, WantsTruth, AllWantTruth}
 use Rattle.gr_model.specs.Tree.{IsNet, IsPlace}
@@ -330,7 +330,7 @@ restarted_unknown net w logs b f i a =
     ])
 
 start_unknown : (net : Net) → Unknowns net (start net)
-unfolding start
+unfolding start_by
 start_unknown net =
     let g : ℕ → ℕ → View = λ c p. started net p c empty_log in
     by_any net (start net) (λ q c y x.

@@ -1,5 +1,5 @@
 -- Over every schedule each call obeys its rule, and each step's lines are those of its calls and its own
-use Rattle.std.proofs.Common.{◌≡◌, ℕ, suc, ◌≤◌, ◌<◌, max, Bool, true, false, ◌||◌, List, [], ◌∷◌, ◌++◌, map, length, set, refl, sym, ap, ap₂, ◌∙◌, subst, Option, Some, None, arith, append-nil}
+use Rattle.std.proofs.Common.{◌≡◌, ℕ, suc, ◌-◌, ◌≤◌, ◌<◌, max, Bool, true, false, ◌||◌, List, [], ◌∷◌, ◌++◌, map, length, set, refl, sym, ap, ap₂, ◌∙◌, subst, Option, Some, None, arith, append-nil}
 use Rattle.std.specs.Prelude.{zero, nat_le, if◌then◌else◌, filter, flat_map}
 use Rattle.std.proofs.lemmas.List.Elements.{filter-append}
 use Rattle.std.proofs.lemmas.Bool.{true≢false, eq-eqb, leb-true, leb-false, le-ltb, lt-ltb}
@@ -263,7 +263,7 @@ stopped_parts net w k p number stop e n f j = go (not_empty (net.subscribers_at 
     tick = max (suc log.settled) w.clock
 
     kept : Bool
-    kept = is_kept log.gate stop.call stop.pick
+    kept = is_kept (log.size - 1) stop.call stop.pick
 
     logs : List Log
     logs = if kept then set w.logs p (with_event log tick e) else w.logs

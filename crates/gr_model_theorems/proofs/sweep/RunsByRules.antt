@@ -18,7 +18,7 @@ use Rattle.gr_model.specs.declared.report.Report.TheVariants as line
 use Rattle.gr_tick.proofs.RunLaws.{runs_equal}
 use Rattle.gr_model.specs.Net.{Net, is_host, not_empty, numbers}
 use Rattle.gr_model.specs.Broker.{joining, with_joins, View, Log, Outcome, empty_log, log_at, log_know, started, max_tick, publish, wake, receive}
-use Rattle.gr_model.specs.World.{join_now_by, World, Transition, blank_view, view_of, log_of, with_view, absorbed, unchanged, followed_by, in_turn, sent_lines, frame_at, frames_past, sent_since, is_want, is_know_to, inwards, outwards, numbers_down, opened_lines, restarted, crash, sweep_moment, show, start, wake_for_by, wake_all_by, deliver_frame_by, publish_now_by, publish_stopped_by, deliver_up_by, wake_up_by, hand_down_by, sweep_for_by, sweep_by, next_by, run_from_by, report_of_by}
+use Rattle.gr_model.specs.World.{join_now_by, World, Transition, blank_view, view_of, log_of, with_view, absorbed, unchanged, followed_by, in_turn, sent_lines, frame_at, frames_past, sent_since, is_want, is_know_to, inwards, outwards, numbers_down, opened_lines, restarted, crash, sweep_moment, show, start, start_by, wake_for_by, wake_all_by, deliver_frame_by, publish_now_by, publish_stopped_by, deliver_up_by, wake_up_by, hand_down_by, sweep_for_by, sweep_by, next_by, run_from_by, report_of_by}
 use Rattle.gr_model_calls.specs.OneNet.{join_now, wake_for, wake_all, deliver_frame, publish_now, publish_stopped, deliver_up, wake_up, hand_down, sweep_for, sweep, next, run_from, run_all, report_of}
 use Rattle.gr_model.specs.Opening.{reopened_log, over_logs}
 use Rattle.gr_model.specs.Tree.{IsNet}
@@ -527,7 +527,7 @@ begins_over net found = record {
     }
 
 begins_holds : (net : Net) → Begins net (start net)
-unfolding start over_logs
+unfolding start_by over_logs
 begins_holds net = begins_over net []
 
 -- over given logs the rules allow one beginning only

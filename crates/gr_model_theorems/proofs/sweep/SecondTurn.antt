@@ -16,7 +16,7 @@ use Rattle.gr_tick.specs.Runs.{AreRuns, first_bottom_from, zip_runs}
 use Rattle.gr_know.specs.Values.{Known, known_at, is_Q, join_K, same_K}
 use Rattle.gr_curio.specs.Values.{Wanted, wanted_at, asked_at, is_C}
 use Rattle.gr_model.specs.Net.{Net, keeps_horizon, pass}
-use Rattle.gr_model.specs.Broker.{with_joins, drops, View, Log, Outcome, learn, receive, clashes, any_C, is_consolidated_by, forward, forward_wants, new_ticks, still_wanted, consolidated, finished}
+use Rattle.gr_model.specs.Broker.{with_joins, drops, View, Log, Outcome, learn, receive, any_C, is_consolidated_by, forward, forward_wants, new_ticks, still_wanted, consolidated, finished}
 use Rattle.gr_model.specs.World.{World, view_of, log_of, absorbed, in_turn, frames_past, is_know_to, deliver_frame_by, hand_down_by}
 use Rattle.gr_model_calls.specs.OneNet.{deliver_frame, hand_down}
 use Rattle.gr_model_calls.specs.Truth.{HasEvent, Facts, KnowsTruth, AllWantTruth}
@@ -25,7 +25,7 @@ use Rattle.gr_model_calls.specs.Fits.{WorldFits, FrameTrue, BodyTrue, ViewTrue, 
 use Rattle.gr_tick.proofs.RunLaws.{first_bottom_from-is}
 use Rattle.gr_model_calls.proofs.calls.CallTruth.{ViewTrue-taken, learned_horizon, joined-is, learn_wants, new_ticks-is, forward-is, quenched-is, finished-is, done_runs}
 use Rattle.gr_model_calls.proofs.calls.Calls.{CallTrue, receive_call, join_not_Q}
-use Rattle.gr_model_calls.proofs.runs.Clash.{nothing_drops, true_pieces}
+use Rattle.gr_model_calls.proofs.runs.Clash.{nothing_drops}
 use Rattle.gr_model_theorems.proofs.heard.Heard.{cases_Q, horizon_keeps, learn_above}
 use Rattle.gr_model_calls.proofs.runs.Worlds.{Each, IsLaterWorld, FrameTrue-later, deliver_kept, filter_frames, frames_past_true}
 use Rattle.gr_model_calls.proofs.asks.AskMoments.{Taken, absorbed_taken}

@@ -14,7 +14,7 @@ use Rattle.gr_tick.specs.Runs.{AreRuns, first_bottom_from, top_of}
 use Rattle.gr_know.specs.Values.{Known, known_at, is_Q}
 use Rattle.gr_curio.specs.Values.{Wanted, wanted_at, asked_at, is_C, is_outstanding}
 use Rattle.gr_model.specs.Net.{Net, is_host, keeps_horizon}
-use Rattle.gr_model.specs.Broker.{View, Log, Outcome, any_C, horizon_if, is_reached, is_consolidated_by, consolidated, up_frames, want_frames, place_of, head, wake, wake_host, wake_below, asking, marking, cutting, with_cut, done_upto, expect_frames, expect_frame, covers, curious, receive}
+use Rattle.gr_model.specs.Broker.{View, Log, Outcome, any_C, horizon_if, is_reached, is_consolidated_by, consolidated, up_frames, want_frames, place_of, head, wake, wake_host, wake_below, asking, marking, cutting, cut_log_at, done_upto, expect_frames, expect_frame, covers, curious, receive}
 use Rattle.gr_model.specs.World.{World, view_of, log_of, sent_since, frames_past, is_want, wake_for_by}
 use Rattle.gr_model_calls.specs.OneNet.{wake_for, deliver_frame}
 use Rattle.gr_model_calls.specs.Truth.{Facts, AllWantTruth}
@@ -25,7 +25,7 @@ use Rattle.gr_curio.specs.declared.asks.Moment.TheVariants.{At}
 use Rattle.gr_tick.proofs.RunLaws.{first_bottom_from-is}
 use Rattle.gr_model_calls.proofs.calls.Pieces.{AllParts, cut_frames-parts}
 use Rattle.gr_model_calls.proofs.calls.CallTruth.{done_runs, done_values}
-use Rattle.gr_model_calls.proofs.calls.Calls.{cutting_same}
+use Rattle.gr_model_calls.proofs.calls.Cutting.{at_cut, cutting_settled}
 use Rattle.gr_model_theorems.proofs.records.Records.{receive_log}
 use Rattle.gr_model_calls.proofs.runs.Worlds.{Each}
 use Rattle.gr_model_calls.proofs.asks.AskMoments.{Each-on, Taken, absorbed_taken}
@@ -342,8 +342,8 @@ cut_all net f p b v log a c h = go (nat_lt log.cut upto) refl
     upto_is : upto ≡ log.settled
     upto_is = omega (arith, past)
 
-    go : (q : Bool) → nat_lt log.cut upto ≡ q → (let l : Log = if q then with_cut log upto else log in l.cut) ≡ log.settled
-    go true e = upto_is
+    go : (q : Bool) → nat_lt log.cut upto ≡ q → (let l : Log = if q then cut_log_at net.reclaim log upto else log in l.cut) ≡ log.settled
+    go true e = at_cut net.reclaim log upto ∙ upto_is
     go false e = omega (arith, c, ltb-false log.cut upto e, upto_is)
 
 marked_none : (net : Net) (p b now : ℕ) (v : View) (log : Log) → nat_le (log.settled + net.quiet) now ≡ false → marking net p b now v log ≡ record { view = v; log = log; lines = []; frames = [] }
@@ -389,7 +389,7 @@ host_woken : (net : Net) (f : Facts) (p b now : ℕ) (v : View) (log : Log) → 
 unfolding wake wake_host
 host_woken net f p b now v log host late a c h = subst (HostWoken v log) (sym is_wake_host) (record {
   view = ap (λ o. o.view) e;
-  settled = (cutting_same net p b (marking net p b now v log).view (marking net p b now v log).log).settled ∙ ap (λ o. o.log.settled) e;
+  settled = cutting_settled net p b (marking net p b now v log).view (marking net p b now v log).log ∙ ap (λ o. o.log.settled) e;
   cut = ap (λ o. (cutting net p b o.view o.log).cut) e ∙ cut_all net f p b v log a c h;
   expects = Each-on IsExpect (marking net p b now v log).frames _ (subst (λ o. Each IsExpect o.frames) (sym e) tt) (told (nat_lt 0 (cutting net p b (marking net p b now v log).view (marking net p b now v log).log).settled) (cutting net p b (marking net p b now v log).view (marking net p b now v log).log).settled (marking net p b now v log).view.wants);
 })

@@ -72,7 +72,7 @@ wake_moves net p w b q n f i j keeps =
     let kept : keeps_horizon net q b ≡ true = subst (λ z. keeps_horizon net q z ≡ true) g (subst (λ z. keeps_horizon net z (net.host z) ≡ true) (sym e) keeps) in
     elim (cases_Bool (nat_le (host_settled q w + net.quiet) w.clock)) [
       | inl y ↦ inr (wake_meets net q b w.clock (view_of w b q) (log_of w q) (reached_in net w q) n j i yes kept (f.logs q j) (f.views q b j i) (held_by_host net w b q f j yes) (subst (λ a. HostKnows (view_of w a q) (log_of w q).settled) g (f.known q j)) (λ x. absurd (both_ways (nat_le (host_settled q w + net.quiet) w.clock) x y)))
-      | inr y ↦ inl (ap (λ r. r.settled) (wake_core net q b w.clock (view_of w b q) (log_of w q)) ∙ rw (yes, y) refl)
+      | inr y ↦ inl (ap (λ r. r.settled) (wake_core net q b w.clock (view_of w b q) (log_of w q) (f.logs q j).keeps) ∙ rw (yes, y) refl)
     ])
 
 deliver_moves : (net : Net) (p : ℕ) (w : World) (x : Frame) → IsNet net → WorldFits net w → FrameTrue net w x → HostMoves net p w (deliver_frame net w x)

@@ -11,7 +11,7 @@ use Rattle.gr_frame.specs.declared.Body.{Body}
 use Rattle.gr_frame.specs.declared.Body.TheVariants as body
 use Rattle.gr_frame.specs.declared.Frame.{Frame}
 use Rattle.gr_model.specs.Net.{Net, is_host}
-use Rattle.gr_model.specs.Broker.{with_joins, drops, View, Log, Outcome, head, know_frames, forward, new_ticks, forward_frames, learn, curiosity, expect, place_of, clashes, receive, marking, cutting, silence, with_mark, wake, wake_host, wake_below, expect_frames}
+use Rattle.gr_model.specs.Broker.{with_joins, drops, View, Log, Outcome, head, know_frames, forward, new_ticks, forward_frames, learn, curiosity, expect, place_of, receive, marking, cutting, silence, with_mark, wake, wake_host, wake_below, expect_frames}
 use Rattle.gr_model.specs.World.{World, Transition, view_of, log_of, absorbed, followed_by, in_turn, frames_past, sent_since, is_want, is_know_to, deliver_frame_by, deliver_up_by, hand_down_by, wake_for_by, wake_up_by}
 use Rattle.gr_model_calls.specs.OneNet.{wake_for, deliver_frame, deliver_up, wake_up, hand_down}
 use Rattle.gr_model_calls.proofs.calls.HostCases.{marking_cases}

@@ -9,7 +9,7 @@ use Rattle.gr_frame.specs.declared.Frame.{Frame}
 use Rattle.gr_know.specs.Values.{Known}
 use Rattle.gr_curio.specs.Values.{Wanted}
 use Rattle.gr_model.specs.Net.{Net}
-use Rattle.gr_model.specs.Broker.{with_joins, drops, View, Log, Outcome, know_frames, want_frames, expect_frame, forward, new_ticks, forward_frames, learn, up_frames, asking, curiosity, expect, expect_frames, covers, place_of, receive, clashes, head}
+use Rattle.gr_model.specs.Broker.{with_joins, drops, View, Log, Outcome, know_frames, want_frames, expect_frame, forward, new_ticks, forward_frames, learn, up_frames, asking, curiosity, expect, expect_frames, covers, place_of, receive, head}
 use Rattle.gr_frame.specs.Bytes.{head_size, known_run_size, wanted_run_size, cut_frames}
 use Rattle.gr_model.specs.World.{World, view_of, log_of, absorbed, is_want, deliver_frame_by}
 use Rattle.gr_model.specs.Tree.{IsNet}
