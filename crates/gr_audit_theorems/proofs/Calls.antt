@@ -54,17 +54,20 @@ wake_unsent net p b now v log = go (is_host net p b)
     new : Log
     new = cutting net p b o.view o.log
 
-    two : (c d : Bool) → filter is_sent (host_lines p now new.cut c d) ≡ []
-    two true true = refl
-    two true false = refl
-    two false true = refl
-    two false false = refl
+    two : (c d e : Bool) → filter is_sent (host_lines p now new.cut new.generation c d e) ≡ []
+    two true true true = refl
+    two true true false = refl
+    two true false e = refl
+    two false true true = refl
+    two false true false = refl
+    two false false e = refl
 
     go : (q : Bool) → filter is_sent (let u : Outcome = elim q [ true ↦ wake_host net p b now v log | false ↦ wake_below net p b now v log ] in u.lines) ≡ []
     go true =
         let c = nat_lt log.settled o.log.settled in
         let d = nat_lt o.log.cut new.cut in
-        filter-append is_sent (host_lines p now new.cut c d) o.lines ∙ ap₂ (λ x y. x ++ y) (two c d) (marking_none is_sent net p b now v log sents_skip)
+        let e = nat_lt o.log.generation new.generation in
+        filter-append is_sent (host_lines p now new.cut new.generation c d e) o.lines ∙ ap₂ (λ x y. x ++ y) (two c d e) (marking_none is_sent net p b now v log sents_skip)
     go false = refl
 
 pub wake_is_call : (net : Net) (p b now : ℕ) → IsCall net p b (λ v log. wake (seen net v) p b now v log)

@@ -90,7 +90,7 @@ all_of P (x ∷ xs) h = (h x (ap (λ c. c || is_among xs x) (eq-eqb x x refl)), 
     more false d e = e
 
 -- no note submits anything
-submits_none : (net : Net) (b : ℕ) (n : Note) → Unheard net → submitted_in net b n ≡ None
+pub submits_none : (net : Net) (b : ℕ) (n : Note) → Unheard net → submitted_in net b n ≡ None
 submits_none net b (Submit p number event) h = go (nat_lt p net.publishers) (net.client p) (h p)
   where
     go : (c d : Bool) → d ≡ false → ◌≡◌ {A = Option Publish} (if c && (d && nat_eq (net.host p) b) then Some (p, (number, event)) else None) None

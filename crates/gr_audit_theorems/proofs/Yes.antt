@@ -8,7 +8,7 @@ use Rattle.gr_topo.specs.Topology.{TopologyView}
 use Rattle.gr_model.specs.declared.report.Report.{Report}
 use Rattle.gr_model.specs.Net.{Net}
 use Rattle.gr_model.specs.NetOf.{net_of}
-use Rattle.gr_model.specs.World.{World, Transition, start, sent_lines}
+use Rattle.gr_model.specs.World.{World, Transition, start, start_by, sent_lines}
 use Rattle.gr_model.specs.Headline.{begin}
 use Rattle.gr_model.specs.Arrivals.{Arrival, Request, requests_of, left_after, comes}
 use Rattle.gr_model.specs.Orders.{orders_of, with_orders}
@@ -105,7 +105,7 @@ lefts_are net steps t (x ∷ js) zero j lt e = ap (λ (z : Journal). requests_of
 lefts_are net steps t (x ∷ js) (suc k) j lt e = lefts_are net steps t js k j (omega (arith, lt)) e
 
 start_sends : (net : Net) → (World.frames (start net)) ≡ []
-unfolding start
+unfolding start_by
 start_sends net = refl
 
 -- the first journal that differs is none, so none does
