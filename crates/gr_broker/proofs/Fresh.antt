@@ -5,19 +5,18 @@ use Rattle.std.specs.Prelude.{is_some, nat_le, nat_lt, if◌then◌else◌}
 use Rattle.std.proofs.lemmas.Bool.{lt-ltb, and_parts, leb-true, false≢true}
 use Rattle.std.proofs.lemmas.List.{length-map}
 use Rattle.gr_topo.specs.Topology.{TopologyView, children_of, subscribers_of, is_empty, not_empty}
-use Rattle.gr_publog.specs.Crash.{LogView}
+use Rattle.gr_publog.specs.Views.{LogView}
 use Rattle.gr_tick.specs.Runs.{AreRuns}
 use Rattle.gr_tick.proofs.RunLaws.{runs_equal}
 use Rattle.gr_frame.specs.declared.Frame.{Frame}
 use Rattle.gr_frame.specs.Bytes.{cut_frames}
-use Rattle.gr_pubend.proofs.Knowing.{log_know-is, log_joins}
+use Rattle.gr_pubend.proofs.Knowing.{log_know-is}
 use Rattle.gr_model_calls.proofs.calls.CallTruth.{new_ticks-is, forward-is}
 use Rattle.gr_curio.specs.Values.{Wanted, Asked, wanted_at, is_A}
 use Rattle.gr_know.specs.Values.{Known, known_at, is_Q}
 use Rattle.gr_know.specs.declared.values.K.TheVariants.{Q}
 use Rattle.gr_event.specs.Joins.{Joins}
-use Rattle.gr_publog.specs.State.{joins_of}
-use Rattle.gr_pubend.specs.Log.{Log, empty_log, log_of, log_know}
+use Rattle.gr_pubend.specs.Log.{Log, empty_log, said, log_know}
 use Rattle.gr_model.specs.declared.report.Report.TheVariants as line
 use Rattle.gr_model.specs.Net.{Net, is_host, keeps_horizon, all_late}
 use Rattle.gr_model.specs.NetOf.{net_of}
@@ -113,54 +112,54 @@ module _ (t : TopologyView) (p b : ℕ) where
   -- one that is here
   module _ (here : is_host (net_of t) p b ≡ true) (l : LogView) where
     -- what is known is what its log says
-    pub fresh_here : (know : Known) (js : Joins) (v : View) → v ≡ fresh_view t p b know js → know ≡ log_know (log_of l.records) → js ≡ joins_of l.records → v ≡ started (net_of t) p b (log_of l.records)
-    fresh_here know js v fresh e j = fresh ∙ ap₂ (fresh_view t p b) e (j ∙ sym (log_joins l.records)) ∙ sym (started_by (net_of t) p b (log_of l.records) true here)
+    pub fresh_here : (know : Known) (js : Joins) (v : View) → v ≡ fresh_view t p b know js → know ≡ log_know (said l) → js ≡ l.state.joins → v ≡ started (net_of t) p b (said l)
+    fresh_here know js v fresh e j = fresh ∙ ap₂ (fresh_view t p b) e j ∙ sym (started_by (net_of t) p b (said l) true here)
 
     -- and that is kept as each call needs it
-    pub fresh_kept : (v : View) → v ≡ started (net_of t) p b (log_of l.records) → all_late (net_of t) (log_of l.records).joins ≡ true → IsKept (net_of t) p b v
-    fresh_kept v e late = subst (λ (x : View). IsKept (net_of t) p b x) (sym e) (kept_at_start (net_of t) p b (log_of l.records) late)
+    pub fresh_kept : (v : View) → v ≡ started (net_of t) p b (said l) → all_late (net_of t) (said l).joins ≡ true → IsKept (net_of t) p b v
+    fresh_kept v e late = subst (λ (x : View). IsKept (net_of t) p b x) (sym e) (kept_at_start (net_of t) p b (said l) late)
 
     -- and the joins that are held are its own
-    pub fresh_joins : HasJoins (started (net_of t) p b (log_of l.records)) l
-    fresh_joins = ap (λ (x : View). x.joins) (started_by (net_of t) p b (log_of l.records) true here)
+    pub fresh_joins : HasJoins (started (net_of t) p b (said l)) l
+    fresh_joins = ap (λ (x : View). x.joins) (started_by (net_of t) p b (said l) true here)
 
-    started_over : l.lane ≡ 2 * p → l.broken ≡ false → l.late ≡ t.late → (v : View) → v ≡ (opened_at (net_of t) p b (log_of l.records)).view → IsKept (net_of t) p b v → HasJoins v l → (o : Option LogView) → o ≡ Some l → IsStarted t p b v o
+    started_over : l.lane ≡ 2 * p → l.broken ≡ false → l.state.late ≡ t.late → (v : View) → v ≡ (opened_at (net_of t) p b (said l)).view → IsKept (net_of t) p b v → HasJoins v l → (o : Option LogView) → o ≡ Some l → IsStarted t p b v o
     started_over lane whole late v same kept holds o is = subst (λ (x : Option LogView). IsStarted t p b v x) (sym is) (record {
       view = same;
       kept = kept;
       hosted = sym here;
       lane = λ m h. ap (λ (x : LogView). x.lane) (sym (some_same l m h)) ∙ lane;
       whole = λ m h. ap (λ (x : LogView). x.broken) (sym (some_same l m h)) ∙ whole;
-      late = λ m h. ap (λ (x : LogView). x.late) (sym (some_same l m h)) ∙ late;
+      late = λ m h. ap (λ (x : LogView). x.state.late) (sym (some_same l m h)) ∙ late;
       joined = λ m h. subst (λ (x : LogView). HasJoins v x) (some_same l m h) holds;
     })
 
     -- where no subscriber is here, it is left with that, and tells its log
-    pub started_alone : l.lane ≡ 2 * p → l.broken ≡ false → l.late ≡ t.late → (v : View) → not_empty (subscribers_of t b) ≡ false → v ≡ started (net_of t) p b (log_of l.records) → all_late (net_of t) (log_of l.records).joins ≡ true → (o : Option LogView) → o ≡ Some l → IsStarted t p b v o
+    pub started_alone : l.lane ≡ 2 * p → l.broken ≡ false → l.state.late ≡ t.late → (v : View) → not_empty (subscribers_of t b) ≡ false → v ≡ started (net_of t) p b (said l) → all_late (net_of t) (said l).joins ≡ true → (o : Option LogView) → o ≡ Some l → IsStarted t p b v o
     started_alone lane whole late v alone same lates =
-        started_over lane whole late v (same ∙ sym (ap (λ (o : Outcome). o.view) (opened_by (net_of t) p b (log_of l.records) true false here alone))) (fresh_kept v same lates) (ap (λ (x : View). x.joins) same ∙ fresh_joins)
+        started_over lane whole late v (same ∙ sym (ap (λ (o : Outcome). o.view) (opened_by (net_of t) p b (said l) true false here alone))) (fresh_kept v same lates) (ap (λ (x : View). x.joins) same ∙ fresh_joins)
 
     -- that is its line
-    pub lines_alone : not_empty (subscribers_of t b) ≡ false → (o : Option LogView) → o ≡ Some l → start_lines t b o p ≡ reopened_line (log_of l.records) p
-    lines_alone alone o is = ap (λ x. start_lines t b x p) is ∙ ap (λ (o : Outcome). o.lines) (opened_by (net_of t) p b (log_of l.records) true false here alone)
+    pub lines_alone : not_empty (subscribers_of t b) ≡ false → (o : Option LogView) → o ≡ Some l → start_lines t b o p ≡ reopened_line (said l) p
+    lines_alone alone o is = ap (λ x. start_lines t b x p) is ∙ ap (λ (o : Outcome). o.lines) (opened_by (net_of t) p b (said l) true false here alone)
 
     -- with a subscriber it learns nothing new, and tells that too
     abbrev learned_nothing : Outcome
-    learned_nothing = learn (seen (net_of t) (started (net_of t) p b (log_of l.records))) p b [] (started (net_of t) p b (log_of l.records)) (log_of l.records)
+    learned_nothing = learn (seen (net_of t) (started (net_of t) p b (said l))) p b [] (started (net_of t) p b (said l)) (said l)
 
     -- what the code learns is that
-    pub learns_nothing : (piece : Known) (v : View) → piece ≡ [] → v ≡ started (net_of t) p b (log_of l.records) → learn (seen (net_of t) v) p b piece v (log_of l.records) ≡ learned_nothing
-    learns_nothing piece v e same = ap (λ (x : Known). learn (seen (net_of t) v) p b x v (log_of l.records)) e ∙ ap (λ (x : View). learn (seen (net_of t) x) p b [] x (log_of l.records)) same
+    pub learns_nothing : (piece : Known) (v : View) → piece ≡ [] → v ≡ started (net_of t) p b (said l) → learn (seen (net_of t) v) p b piece v (said l) ≡ learned_nothing
+    learns_nothing piece v e same = ap (λ (x : Known). learn (seen (net_of t) v) p b x v (said l)) e ∙ ap (λ (x : View). learn (seen (net_of t) x) p b [] x (said l)) same
 
     -- and that is left
-    pub started_with : l.lane ≡ 2 * p → l.broken ≡ false → l.late ≡ t.late → (v : View) → not_empty (subscribers_of t b) ≡ true → v ≡ learned_nothing.view → IsKept (net_of t) p b v → (o : Option LogView) → o ≡ Some l → IsStarted t p b v o
+    pub started_with : l.lane ≡ 2 * p → l.broken ≡ false → l.state.late ≡ t.late → (v : View) → not_empty (subscribers_of t b) ≡ true → v ≡ learned_nothing.view → IsKept (net_of t) p b v → (o : Option LogView) → o ≡ Some l → IsStarted t p b v o
     started_with lane whole late v some same kept =
-        started_over lane whole late v (same ∙ sym (ap (λ (o : Outcome). o.view) (opened_by (net_of t) p b (log_of l.records) true true here some))) kept
-        (ap (λ (x : View). x.joins) same ∙ learn_joins (seen (net_of t) (started (net_of t) p b (log_of l.records))) p b [] (started (net_of t) p b (log_of l.records)) (log_of l.records) ∙ fresh_joins)
+        started_over lane whole late v (same ∙ sym (ap (λ (o : Outcome). o.view) (opened_by (net_of t) p b (said l) true true here some))) kept
+        (ap (λ (x : View). x.joins) same ∙ learn_joins (seen (net_of t) (started (net_of t) p b (said l))) p b [] (started (net_of t) p b (said l)) (said l) ∙ fresh_joins)
 
     -- those are its lines
-    pub lines_with : not_empty (subscribers_of t b) ≡ true → (o : Option LogView) → o ≡ Some l → start_lines t b o p ≡ reopened_line (log_of l.records) p ++ learned_nothing.lines
-    lines_with some o is = ap (λ x. start_lines t b x p) is ∙ ap (λ (o : Outcome). o.lines) (opened_by (net_of t) p b (log_of l.records) true true here some)
+    pub lines_with : not_empty (subscribers_of t b) ≡ true → (o : Option LogView) → o ≡ Some l → start_lines t b o p ≡ reopened_line (said l) p ++ learned_nothing.lines
+    lines_with some o is = ap (λ x. start_lines t b x p) is ∙ ap (λ (o : Outcome). o.lines) (opened_by (net_of t) p b (said l) true true here some)
 
 -- A start sends nothing
 

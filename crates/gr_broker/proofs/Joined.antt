@@ -1,32 +1,29 @@
 -- The joins that are held: no call but a join changes those of a host, and after each they are those of its log; a join that may be
 -- logged has room, and only late subscribers join
-use Rattle.std.proofs.Common.{◌≡◌, ◌≢◌, ◌⊎◌, inl, inr, ℕ, suc, ◌<◌, ◌≤◌, max, Bool, true, false, List, [], ◌∷◌, ◌++◌, length, map, get_or, set, Option, Some, None, Result, Ok, Err, OnOk, OnErr, refl, sym, ap, ◌∙◌, subst}
+use Rattle.std.proofs.Common.{◌≡◌, ◌≢◌, ◌⊎◌, inl, inr, ℕ, suc, ◌<◌, max, Bool, true, false, List, [], ◌∷◌, ◌++◌, length, map, get_or, set, Option, Some, None, Result, Ok, Err, OnOk, OnErr, refl, sym, ap, ◌∙◌, subst}
 use Rattle.std.specs.Prelude.{nat_eq, nat_lt, if◌then◌else◌, IsSome}
 use Rattle.std.specs.List.{list_any}
 use Rattle.std.proofs.lemmas.Bool.{cases_eq, and_parts, and_from, false≢true}
 use Rattle.std.proofs.lemmas.List.{map-set, length-map, get_or-set_same, get_or-set_other}
-use Rattle.gr_event.specs.declared.limits.TheConstants.{MAX_JOINS}
 use Rattle.gr_event.specs.declared.event.Event.{Event}
 use Rattle.gr_event.specs.Joins.{Joins, has_joined, may_join}
 use Rattle.gr_know.specs.Values.{Known}
 use Rattle.gr_curio.specs.Values.{Wanted}
-use Rattle.gr_publog.specs.declared.record.Record.{Record}
 use Rattle.gr_publog.specs.declared.record.Record.TheVariants as entry
 use Rattle.gr_publog.specs.declared.record.LogFault.{LogFault}
 use Rattle.gr_publog.specs.declared.record.LogFault.TheVariants as fault
-use Rattle.gr_publog.specs.State.{Standing, first_standing, stands_after, standing_from, standing_of, joins_of, may_settle, may_enter, may_follow, Follow, HasRoom}
-use Rattle.gr_publog.specs.Crash.{LogView}
+use Rattle.gr_publog.specs.State.{LogState, footing, numbers, may_settle, may_enter, may_follow, AreLate, IsState}
+use Rattle.gr_publog.specs.Views.{LogView}
 use Rattle.gr_publog.specs.Calls.{Leaves}
-use Rattle.gr_publog.proofs.Joins.{room_first, room_after, may_stand}
+use Rattle.gr_publog.proofs.Entering.{may_with}
 use Rattle.gr_pubend.specs.declared.answers.Joined.{Joined}
 use Rattle.gr_pubend.specs.declared.answers.Joined.TheVariants as joins
 use Rattle.gr_pubend.specs.declared.answers.Published.{Published}
 use Rattle.gr_pubend.specs.declared.answers.Published.TheVariants as publishes
 use Rattle.gr_pubend.specs.declared.answers.Quieted.{Quieted}
 use Rattle.gr_pubend.specs.declared.answers.Quieted.TheVariants as quiets
-use Rattle.gr_pubend.specs.Log.{Log, with_cut, log_of, silence}
+use Rattle.gr_pubend.specs.Log.{Log, with_cut, filled_log, cut_log_at, reclaims, said, silence}
 use Rattle.gr_pubend.specs.Answers.{published, quieted, joined_at}
-use Rattle.gr_pubend.proofs.Knowing.{log_joins}
 use Rattle.gr_topo.specs.Topology.{TopologyView}
 use Rattle.gr_model.specs.Net.{Net, is_host, all_late, is_late, keeps_horizon}
 use Rattle.gr_model.specs.NetOf.{net_of}
@@ -97,8 +94,12 @@ cutting_joins net p b v log = go (nat_lt log.cut tick)
     tick : ℕ
     tick = done_upto (consolidated (keeps_horizon net p b) v.horizon v.wants) log.settled
 
-    go : (q : Bool) → (let l : Log = if q then with_cut log tick else log in l.joins) ≡ log.joins
-    go true = refl
+    anew : (r : Bool) → (let l : Log = if r then filled_log (with_cut log tick) else with_cut log tick in l.joins) ≡ log.joins
+    anew true = refl
+    anew false = refl
+
+    go : (q : Bool) → (let l : Log = if q then cut_log_at net.reclaim log tick else log in l.joins) ≡ log.joins
+    go true = anew (reclaims net.reclaim log.size log.generation)
     go false = refl
 
 -- A log that is here, and what is held beside it
@@ -107,7 +108,7 @@ cutting_joins net p b v log = go (nat_lt log.cut tick)
 abbrev pub Beside : View → Option LogView → Type 0
 Beside v o = (l : LogView) → o ≡ Some l → HasJoins v l
 
-some_said : (o : Option LogView) (l : LogView) → o ≡ Some l → log_said o ≡ log_of l.records
+some_said : (o : Option LogView) (l : LogView) → o ≡ Some l → log_said o ≡ said l
 some_said o l e = ap log_said e
 
 -- what is held is beside a log where it is that of what the machine says of it
@@ -119,7 +120,7 @@ pub said_joins : (v : View) (o : Option LogView) → IsSome o → Beside v o →
 said_joins v (Some l) s h = h l refl
 said_joins v None s h = absurd (false≢true s)
 
--- a log that the disk failed has the same records
+-- a log that the disk failed holds the same
 pub beside_failed : (v : View) (o : Option LogView) → Beside v o → Beside v (with_failed o)
 beside_failed v None h l e = h l e
 beside_failed v (Some m) h l e = subst (λ (x : LogView). HasJoins v x) (some_is e) (h m refl)
@@ -135,10 +136,6 @@ beside_after (Err fault.Memory) v v' w l l' next old new s ok err = subst (λ (o
 beside_after (Err fault.Disk) v v' w l l' next old new s ok err = subst (λ (o : Option LogView). Beside v' o) (sym (s.failed refl)) (subst (λ (u : View). Beside u (with_failed l)) (sym err) (beside_failed v l old))
 beside_after (Err fault.Reopen) v v' w l l' next old new s ok err = subst (λ (o : Option LogView). Beside v' o) (sym (s.closed refl)) (subst (λ (u : View). Beside u l) (sym err) old)
 beside_after (Err (fault.Damaged at)) v v' w l l' next old new s ok err = absurd (s.never_damaged at refl)
-
--- where all is as before
-pub beside_same : (v v' : View) (l l' : Option LogView) → v'.joins ≡ v.joins → l' ≡ l → Beside v l → Beside v' l'
-beside_same v v' l l' ev el h m e = ev ∙ h m (sym el ∙ e)
 
 -- One part is put in place of another
 
@@ -179,16 +176,8 @@ logged_tick log s now tick fresh e = go (has_joined log.joins s) (nat_lt max_tic
     go false false k = let same : next ≡ tick = cc k in sym same
 
 -- there is room for it behind the joins of its log
-
-room_from : (s : Standing) (rs : List Record) → HasRoom s → Follow s rs → HasRoom (standing_from s rs)
-room_from s [] h f = h
-room_from s (r ∷ rs) h f = room_from (stands_after s r) rs (room_after s r h f.0) f.2
-
-pub has_room : (late : List ℕ) (rs : List Record) → length late ≤ MAX_JOINS → Follow (first_standing late) rs → HasRoom (standing_of late rs)
-has_room late rs few f = room_from (first_standing late) rs (room_first late few) f
-
-pub may_be_held : (late : List ℕ) (rs : List Record) (tick s : ℕ) → length late ≤ MAX_JOINS → Follow (first_standing late) rs → may_follow (standing_of late rs) (entry.Join tick s) ≡ true → may_join (joins_of rs) (record { subscriber = s; tick = tick }) ≡ true
-may_be_held late rs tick s few f may = may_stand (standing_of late rs) tick s (has_room late rs few f) may
+pub may_be_held : (s : LogState) (tick x : ℕ) → IsState s → may_follow s (entry.Join tick x) ≡ true → may_join s.joins (record { subscriber = x; tick = tick }) ≡ true
+may_be_held s tick x i may = may_with (footing s) tick x i.held may
 
 -- What each call needs of what is kept is so with other joins of late subscribers
 pub kept_with : (net : Net) (p b : ℕ) (v : View) (js : Joins) → IsKept net p b v → all_late net js ≡ true → IsKept net p b (with_joins v js)
@@ -196,27 +185,23 @@ kept_with net p b v js k late = record { wants = k.wants; final = k.final; dropp
 
 -- Only late subscribers join
 
-enters_late : (net : Net) (s : Standing) (tick x : ℕ) → s.late ≡ net.late → may_follow s (entry.Join tick x) ≡ true → is_late net x ≡ true
+enters_late : (net : Net) (s : LogState) (tick x : ℕ) → s.late ≡ net.late → may_follow s (entry.Join tick x) ≡ true → is_late net x ≡ true
 enters_late net s tick x e may =
-    let enters = and_parts (may_settle s.state tick) (may_enter s x) may in
+    let enters = and_parts (may_settle (numbers s) tick) (may_enter (footing s) x) may in
     ap (λ (late : List ℕ). list_any (λ y. nat_eq y x) late) (sym e) ∙ (and_parts (list_any (λ y. nat_eq y x) s.late) _ enters.1).0
 
-joined_late : (net : Net) (s : Standing) (rs : List Record) → s.late ≡ net.late → Follow s rs → all_late net s.joins ≡ true → all_late net (standing_from s rs).joins ≡ true
-joined_late net s [] e f a = a
-joined_late net s (entry.Event tick number event ∷ rs) e f a = joined_late net (stands_after s (entry.Event tick number event)) rs e f.2 a
-joined_late net s (entry.Mark tick ∷ rs) e f a = joined_late net (stands_after s (entry.Mark tick)) rs e f.2 a
-joined_late net s (entry.Cut tick ∷ rs) e f a = joined_late net (stands_after s (entry.Cut tick)) rs e f.2 a
-joined_late net s (entry.Join tick x ∷ rs) e f a =
-    joined_late net (stands_after s (entry.Join tick x)) rs e f.2
-    (all_late_on net s.joins (record { subscriber = x; tick = tick } ∷ []) a (and_from (is_late net x) true (enters_late net s tick x e f.0) refl))
+late_all : (net : Net) (late : List ℕ) (js : Joins) → late ≡ net.late → AreLate late js → all_late net js ≡ true
+late_all net late [] e a = refl
+late_all net late (j ∷ js) e a =
+    and_from (is_late net j.subscriber) (all_late net js) (ap (λ (ls : List ℕ). list_any (λ x. nat_eq x j.subscriber) ls) (sym e) ∙ a.0) (late_all net late js e a.1)
 
 -- the joins of a log in which those of the topology may join
-pub log_late : (t : TopologyView) (late : List ℕ) (rs : List Record) → late ≡ t.late → Follow (first_standing late) rs → all_late (net_of t) (log_of rs).joins ≡ true
-log_late t late rs e f = ap (all_late (net_of t)) (log_joins rs) ∙ joined_late (net_of t) (first_standing late) rs e f refl
+pub log_late : (t : TopologyView) (s : LogState) → s.late ≡ t.late → IsState s → all_late (net_of t) s.joins ≡ true
+log_late t s e i = late_all (net_of t) s.late s.joins e i.held.known
 
 -- and they with one more
-pub more_late : (t : TopologyView) (late : List ℕ) (rs : List Record) (tick s : ℕ) → late ≡ t.late → Follow (first_standing late) rs → may_follow (standing_of late rs) (entry.Join tick s) ≡ true →
-    all_late (net_of t) (joins_of rs ++ record { subscriber = s; tick = tick } ∷ []) ≡ true
-more_late t late rs tick s e f may =
-    all_late_on (net_of t) (joins_of rs) (record { subscriber = s; tick = tick } ∷ []) (joined_late (net_of t) (first_standing late) rs e f refl)
-    (and_from (is_late (net_of t) s) true (enters_late (net_of t) (standing_of late rs) tick s e may) refl)
+pub more_late : (t : TopologyView) (s : LogState) (tick x : ℕ) → s.late ≡ t.late → IsState s → may_follow s (entry.Join tick x) ≡ true →
+    all_late (net_of t) (s.joins ++ record { subscriber = x; tick = tick } ∷ []) ≡ true
+more_late t s tick x e i may =
+    all_late_on (net_of t) s.joins (record { subscriber = x; tick = tick } ∷ []) (log_late t s e i)
+    (and_from (is_late (net_of t) x) true (enters_late (net_of t) s tick x e may) refl)

@@ -1,11 +1,11 @@
 pub mod Joined
 pub mod Hosted
-pub mod Twice
 pub mod Fresh
+pub mod Using
 pub mod Opening
+pub mod Wakes
 pub mod Parts
 pub mod Reading
 pub mod Receipts
 pub mod ReceiptSites
-pub mod Using
 pub mod Woken

@@ -8,10 +8,10 @@ use Rattle.gr_edge.specs.Pass.{Wanting}
 use Rattle.gr_publog.specs.declared.record.Record.{Record}
 use Rattle.gr_publog.specs.declared.record.LogFault.{LogFault}
 use Rattle.gr_publog.specs.declared.record.LogFault.TheVariants as fault
-use Rattle.gr_publog.specs.Crash.{LogView}
+use Rattle.gr_publog.specs.Views.{LogView, lanes_at}
 use Rattle.gr_out.specs.Lane.{Lane}
-use Rattle.gr_publog.specs.Calls.{Appends, Leaves, records_with}
-use Rattle.gr_pubend.specs.Log.{log_of}
+use Rattle.gr_publog.specs.Calls.{Appends, Leaves, appended_if}
+use Rattle.gr_pubend.specs.Log.{said}
 use Rattle.gr_pubend.specs.Answers.{published, event_of, publish_logs, joined_at, join_of, join_logs}
 use Rattle.gr_model.specs.Net.{Net}
 use Rattle.gr_model.specs.Broker.{View, publish}
@@ -141,7 +141,7 @@ stays_on n result l l' r on s = after_leaves (OnLane n) result l l' r on (logged
 
 -- the subscribers that may join in a log, where there is one
 abbrev pub HasLate : List ℕ → Option LogView → Type 0
-HasLate late o = (l : LogView) → o ≡ Some l → l.late ≡ late
+HasLate late o = (l : LogView) → o ≡ Some l → l.state.late ≡ late
 
 -- and they stay those
 pub stays_late : {T : Type 0} (late : List ℕ) (result : Result T LogFault) (l l' : Option LogView) (r : Option Record) → HasLate late l → Leaves l (with_logged l r) (with_failed l) l' result → HasLate late l'
@@ -153,11 +153,11 @@ stays_late late result l l' r on s = after_leaves (HasLate late) result l l' r o
     logged_on : (l : Option LogView) (r : Option Record) → HasLate late l → HasLate late (with_logged l r)
     logged_on None r on m e = cc
     logged_on (Some x) None on m e = on m e
-    logged_on (Some x) (Some y) on m e = ap (λ z. z.late) (sym (some_is e)) ∙ on x refl
+    logged_on (Some x) (Some y) on m e = ap (λ z. z.state.late) (sym (some_is e)) ∙ on x refl
 
     failed_on : (l : Option LogView) → HasLate late l → HasLate late (with_failed l)
     failed_on None on m e = cc
-    failed_on (Some x) on m e = ap (λ z. z.late) (sym (some_is e)) ∙ on x refl
+    failed_on (Some x) on m e = ap (λ z. z.state.late) (sym (some_is e)) ∙ on x refl
 
 -- what an answer gives of its own, by another fact of it
 pub both_ok : {T E : Type 0} {P R S : Type 0} (r : Result T E) → (P → R → S) → OnOk r P → OnOk r R → OnOk r S
@@ -172,9 +172,9 @@ there None s f = absurd (false≢true s)
 -- what the machine says of a publisher's log once a publish was logged
 pub said_after : (net : Net) (p b now number : ℕ) (e : Event) (v : View) (o : Option LogView) → IsSome o →
     log_said (with_logged o (event_of (published (log_said o) number e now) number e)) ≡ (publish net p b now number e v (log_said o)).log
-said_after net p b now number e v (Some l) s = by_record (publish_logs l.records number e now) ∙ publish_log_is net p b now number e v l.records
+said_after net p b now number e v (Some l) s = by_record (publish_logs (said l) number e now) ∙ publish_log_is net p b now number e v l
   where
-    by_record : (r : Option Record) → log_said (with_logged (Some l) r) ≡ log_of (records_with l.records r)
+    by_record : (r : Option Record) → log_said (with_logged (Some l) r) ≡ said (appended_if r l)
     by_record None = refl
     by_record (Some r) = refl
 said_after net p b now number e v None s = absurd (false≢true s)
@@ -182,20 +182,20 @@ said_after net p b now number e v None s = absurd (false≢true s)
 -- and once a join was
 pub said_joined : (net : Net) (p b now s : ℕ) (v : View) (o : Option LogView) → IsSome o →
     log_said (with_logged o (join_of (joined_at (log_said o) s now) s)) ≡ (join_with net p b now s v (log_said o)).log
-said_joined net p b now s v (Some l) is = by_record (join_logs l.records s now) ∙ join_log_is net p b now s v l.records
+said_joined net p b now s v (Some l) is = by_record (join_logs (said l) s now) ∙ join_log_is net p b now s v l
   where
-    by_record : (r : Option Record) → log_said (with_logged (Some l) r) ≡ log_of (records_with l.records r)
+    by_record : (r : Option Record) → log_said (with_logged (Some l) r) ≡ said (appended_if r l)
     by_record None = refl
     by_record (Some r) = refl
 said_joined net p b now s v None is = absurd (false≢true is)
 
--- what a call does to the lane of a publisher that is here
+-- what a call does to the lanes of a publisher that is here
 pub appends_at : {T : Type 0} (b : BrokerView) (p : ℕ) (r : Option Record) (before after : ℕ → Lane) (result : Result T LogFault) →
-    ((l : LogView) → log_in b p ≡ Some l → Appends l r (before (2 * p)) (after (2 * p)) result) → AppendsAt b p r before after result
+    ((l : LogView) → log_in b p ≡ Some l → Appends l r (lanes_at before (2 * p)) (lanes_at after (2 * p)) result) → AppendsAt b p r before after result
 appends_at b p r before after result h = go (log_in b p) refl
   where
     At : Option LogView → Type 0
-    At o = elim o [ Some l ↦ Appends l r (before (2 * p)) (after (2 * p)) result | None ↦ Unit {0} ]
+    At o = elim o [ Some l ↦ Appends l r (lanes_at before (2 * p)) (lanes_at after (2 * p)) result | None ↦ Unit {0} ]
 
     go : (o : Option LogView) → log_in b p ≡ o → At o
     go (Some l) e = h l e

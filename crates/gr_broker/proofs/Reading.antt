@@ -8,7 +8,7 @@ use Rattle.gr_frame.specs.declared.fault.FrameFault.{FrameFault}
 use Rattle.gr_frame.specs.Gives.{Fails, FailsAs, fault}
 use Rattle.gr_frame.specs.declared.Frame.{Frame}
 use Rattle.gr_edge.specs.Pass.{Wanting}
-use Rattle.gr_publog.specs.Crash.{LogView}
+use Rattle.gr_publog.specs.Views.{LogView}
 use Rattle.gr_model.specs.Net.{Net}
 use Rattle.gr_model.specs.Broker.{View}
 use Rattle.gr_model.specs.World.{blank_view}

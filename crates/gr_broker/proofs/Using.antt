@@ -1,15 +1,117 @@
--- What a call leaves of one lane: the same whatever it was to answer, and of two calls what the second leaves
-use Rattle.std.proofs.Common.{◌≡◌, ◌⊎◌, ℕ, true, Result, Ok, Err, subst, ◌∙◌}
+-- What a call leaves of two lanes: the same whatever it was to answer, and of two calls what the second leaves
+use Rattle.std.proofs.Common.{◌≡◌, ◌⊎◌, inl, inr, ⊎_elim, ℕ, suc, Bool, true, false, if◌then◌else◌, ◌||◌, Option, Result, Ok, Err, OnOk, refl, ap, sym, subst, ◌∙◌}
 use Rattle.std.specs.Prelude.{IsErrOf}
+use Rattle.std.proofs.lemmas.Bool.{true≢false}
 use Rattle.gr_out.specs.Faults.{Rose}
+use Rattle.gr_out.specs.Stops.{StaysFaultless}
 use Rattle.gr_out.specs.Lane.{Lane, has_stopped}
+use Rattle.gr_publog.specs.declared.record.Record.{Record}
 use Rattle.gr_publog.specs.declared.record.LogFault.{LogFault}
 use Rattle.gr_publog.specs.declared.record.LogFault.TheVariants as fault
-use Rattle.gr_publog.specs.Calls.{Tally}
-use Rattle.gr_publog.proofs.Calling.{same_fault}
-use Rattle.gr_publog.proofs.Onward.{goes_on_then}
-use Rattle.gr_broker.specs.Keeps.{UsesLane}
-use Rattle.gr_broker.proofs.Opening.{faultless_on}
+use Rattle.gr_publog.specs.Steps.{GoesOn}
+use Rattle.gr_publog.specs.Views.{LogView, Lanes, lanes_at, AwayFrom, number_of, failed, other, Stands, IsReady}
+use Rattle.gr_publog.specs.Calls.{Appends, Tally, Causes, Leaves}
+use Rattle.gr_publog.proofs.Passing.{same_fault}
+use Rattle.gr_publog.proofs.Onward.{goes_on_same, goes_on_then}
+use Rattle.gr_pubend.specs.Cuts.{Cuts}
+use Rattle.gr_pubend.proofs.Cuts.{cuts_on}
+use Rattle.gr_broker.specs.Lanes.{GoesOnBoth, either_stopped}
+use Rattle.gr_broker.specs.Keeps.{UsesLane, UsesLog}
+
+-- One call after another
+
+-- a disk that stays faultless
+pub faultless_on : (a b c : Type 0) (f g h : ℕ) → StaysFaultless a b f g → StaysFaultless b c g h → StaysFaultless a c f h
+faultless_on a b c f g h x y = record { stays = λ z. y.stays (x.stays z); same_faults = λ z. y.same_faults (x.stays z) ∙ x.same_faults z }
+
+-- two lanes on which calls stay called
+pub both_then : (a b c : Lanes) → GoesOnBoth a b → GoesOnBoth b c → GoesOnBoth a c
+both_then a b c x y = record {
+  first = goes_on_then a.first b.first c.first x.first y.first;
+  second = goes_on_then a.second b.second c.second x.second y.second;
+}
+
+-- lanes that are as they were
+pub both_same : (a b : Lanes) → b ≡ a → GoesOnBoth a b
+both_same a b e = record {
+  first = goes_on_same a.first b.first (ap (λ (x : Lanes). x.first) e);
+  second = goes_on_same a.second b.second (ap (λ (x : Lanes). x.second) e);
+}
+
+-- A call on a log
+
+-- it fails for a stop of one of its two lanes where it fails for a stop of one
+stops_either : (second : Bool) (x y : Lane) → (let l : Lane = if second then y else x in has_stopped l.stop ≡ true) → (has_stopped x.stop || has_stopped y.stop) ≡ true
+stops_either false x y e = ap (λ (b : Bool). b || has_stopped y.stop) e
+stops_either true x y e = ap (λ (b : Bool). has_stopped x.stop || b) e ∙ or_true (has_stopped x.stop)
+  where
+    or_true : (b : Bool) → (b || true) ≡ true
+    or_true true = refl
+    or_true false = refl
+
+numbered : (lanes : ℕ → Lane) (lane : ℕ) (second : Bool) → lanes (number_of lane second) ≡ (if second then lanes (suc lane) else lanes lane)
+numbered lanes lane false = refl
+numbered lanes lane true = refl
+
+pub causes_either : {T : Type 0} (faultless : Type 0) (lanes : ℕ → Lane) (lane : ℕ) (second : Bool) (f f' : ℕ) (result : Result T LogFault) → Causes faultless (has_stopped (lanes (number_of lane second)).stop) f f' result
+    → Causes faultless (either_stopped (lanes_at lanes lane)) f f' result
+causes_either faultless lanes lane second f f' result c = record {
+  why = λ e. ⊎_elim (λ s. inl (either s)) (λ r. inr r) (c.why e);
+  by_stop = λ none e. either (c.by_stop none e);
+}
+  where
+    either : has_stopped (lanes (number_of lane second)).stop ≡ true → either_stopped (lanes_at lanes lane) ≡ true
+    either s = stops_either second (lanes lane) (lanes (suc lane)) (ap (λ (l : Lane). has_stopped l.stop) (sym (numbered lanes lane second)) ∙ s)
+
+-- what was called on its lanes stays called
+both_of : (second : Bool) (before after : Lanes) → GoesOn (if second then before.second else before.first) (if second then after.second else after.first)
+    → GoesOn (if second then before.first else before.second) (if second then after.first else after.second) → GoesOnBoth before after
+both_of false before after p o = record { first = p; second = o }
+both_of true before after p o = record { first = o; second = p }
+
+pub appends_both : {T : Type 0} (l : LogView) (logged : Option Record) (before after : Lanes) (result : Result T LogFault) → Appends l logged before after result → GoesOnBoth before after
+appends_both l logged before after result k = both_of l.second before after k.on (goes_on_same (other l before) (other l after) k.aside)
+
+pub cuts_both : {T : Type 0} (l : LogView) (cut : Option ℕ) (reclaim : ℕ) (before after : Lanes) (result : Result T LogFault) → Cuts l cut reclaim before after result → GoesOnBoth before after
+cuts_both l cut reclaim before after result k = let on = cuts_on l reclaim before after result cut k in both_of l.second before after on.0 on.1
+
+-- and it is ready for the next call
+pub ready_after : {T : Type 0} (l l' next : LogView) (lanes lanes' : ℕ → Lane) (result : Result T LogFault) → IsReady l (lanes_at lanes l.lane) → Leaves l next (failed l) l' result
+    → next.lane ≡ l.lane → next.broken ≡ l.broken → (l.broken ≡ false → OnOk result (Stands (lanes_at lanes' l.lane) next))
+    → (IsErrOf result fault.Memory → lanes_at lanes' l.lane ≡ lanes_at lanes l.lane) → (IsErrOf result fault.Reopen → lanes_at lanes' l.lane ≡ lanes_at lanes l.lane) → IsReady l' (lanes_at lanes' l'.lane)
+ready_after l l' next lanes lanes' (Ok x) ready k lane broken stands memory closed =
+    subst (λ (m : LogView). IsReady m (lanes_at lanes' m.lane)) (sym k.ok) (λ b. subst (λ (n : ℕ). Stands (lanes_at lanes' n) next) (sym lane) (stands (sym broken ∙ b)))
+ready_after l l' next lanes lanes' (Err fault.Memory) ready k lane broken stands memory closed =
+    subst (λ (m : LogView). IsReady m (lanes_at lanes' m.lane)) (sym (k.memory refl)) (subst (λ (ls : Lanes). IsReady l ls) (sym (memory refl)) ready)
+ready_after l l' next lanes lanes' (Err fault.Reopen) ready k lane broken stands memory closed =
+    subst (λ (m : LogView). IsReady m (lanes_at lanes' m.lane)) (sym (k.closed refl)) (subst (λ (ls : Lanes). IsReady l ls) (sym (closed refl)) ready)
+ready_after l l' next lanes lanes' (Err fault.Disk) ready k lane broken stands memory closed =
+    subst (λ (m : LogView). IsReady m (lanes_at lanes' m.lane)) (sym (k.failed refl)) (λ b. absurd (true≢false b))
+ready_after l l' next lanes lanes' (Err (fault.Damaged at)) ready k lane broken stands memory closed = absurd (k.never_damaged at refl)
+
+-- What a call leaves of a disk
+
+-- of one of the two lanes by its number, and of what the log then is
+pub log_uses : {S T : Type 0} {tells : Type 0} {faultless : S → Type 0} {lane_of : S → ℕ → Lane} {faults stops : S → ℕ} (a b : S) (l l' next : LogView) (second : Bool) (result : Result T LogFault)
+    → (tells → IsReady l (lanes_at (lane_of a) l.lane)) → Leaves l next (failed l) l' result → next.lane ≡ l.lane → next.broken ≡ l.broken
+    → Tally (faults a) (stops a) (faults b) (stops b) result → StaysFaultless (faultless a) (faultless b) (faults a) (faults b) → (IsErrOf result fault.Reopen → b ≡ a)
+    → (tells → Causes (faultless a) (has_stopped (lane_of b (number_of l.lane second)).stop) (faults a) (faults b) result)
+    → (tells → (n : ℕ) → AwayFrom l.lane n → lane_of b n ≡ lane_of a n)
+    → (tells → GoesOnBoth (lanes_at (lane_of a) l.lane) (lanes_at (lane_of b) l.lane))
+    → (tells → l.broken ≡ false → OnOk result (Stands (lanes_at (lane_of b) l.lane) next))
+    → (tells → IsErrOf result fault.Memory → lanes_at (lane_of b) l.lane ≡ lanes_at (lane_of a) l.lane)
+    → UsesLog tells faultless lane_of faults stops a b l l' result
+log_uses {S} {T} {tells} {faultless} {lane_of} {faults} {stops} a b l l' next second result ready left lane broken tally faultless_stays idle causes others on stands untouched = record {
+  lane = record {
+    tally = tally;
+    faultless_stays = faultless_stays;
+    idle = idle;
+    causes = λ t. causes_either (faultless a) (lane_of b) l.lane second (faults a) (faults b) result (causes t);
+    others = others;
+    goes_on = on;
+  };
+  stands = λ t. ready_after l l' next (lane_of a) (lane_of b) result (ready t) left lane broken (stands t) (untouched t) (λ h. ap (λ (d : S). lanes_at (lane_of d) l.lane) (idle h));
+}
 
 module _ {S T U : Type 0} {tells : Type 0} {faultless : S → Type 0} {lane_of : S → ℕ → Lane} {faults stops : S → ℕ} {lane : ℕ} where
   -- another answer, or the same fault
@@ -56,9 +158,9 @@ module _ {S T U : Type 0} {tells : Type 0} {faultless : S → Type 0} {lane_of :
         faultless_stays = faultless_on (faultless a) (faultless b) (faultless c) (faults a) (faults b) (faults c) one.faultless_stays two.faultless_stays;
         idle = idle;
         causes = λ t. let k = two.causes t in record {
-          why = subst (λ (n : ℕ). IsErrOf result fault.Disk → (has_stopped (lane_of c lane).stop ≡ true) ⊎ Rose n (faults c)) same.0 k.why;
+          why = subst (λ (n : ℕ). IsErrOf result fault.Disk → (either_stopped (lanes_at (lane_of c) lane) ≡ true) ⊎ Rose n (faults c)) same.0 k.why;
           by_stop = λ none. k.by_stop (one.faultless_stays.stays none);
         };
         others = λ t n other. two.others t n other ∙ one.others t n other;
-        goes_on = λ t. goes_on_then (lane_of a lane) (lane_of b lane) (lane_of c lane) (one.goes_on t) (two.goes_on t);
+        goes_on = λ t. both_then (lanes_at (lane_of a) lane) (lanes_at (lane_of b) lane) (lanes_at (lane_of c) lane) (one.goes_on t) (two.goes_on t);
       }

@@ -7,10 +7,13 @@ use Rattle.gr_out.specs.Lane.{Lane}
 use Rattle.gr_publog.specs.declared.record.Record.{Record}
 use Rattle.gr_publog.specs.declared.record.LogFault.{LogFault}
 use Rattle.gr_publog.specs.declared.record.LogFault.TheVariants as fault
-use Rattle.gr_publog.specs.Crash.{LogView, failed}
-use Rattle.gr_publog.specs.Calls.{IsReady}
-use Rattle.gr_pubend.specs.Log.{Log, log_of}
+use Rattle.gr_publog.specs.State.{LogState, IsState}
+use Rattle.gr_publog.specs.Views.{LogView, lanes_at, failed, AwayFrom, IsReady}
+use Rattle.gr_publog.specs.Calls.{appended_if}
+use Rattle.gr_pubend.specs.Log.{Log, said}
 use Rattle.gr_pubend.specs.Answers.{quiet_logs}
+use Rattle.gr_pubend.specs.Cuts.{cut_if}
+use Rattle.gr_pubend.proofs.Cuts.{cut_holds, cut_stays}
 use Rattle.gr_topo.specs.Topology.{TopologyView}
 use Rattle.gr_model.specs.Net.{Net, is_host}
 use Rattle.gr_model.specs.NetOf.{net_of}
@@ -24,16 +27,18 @@ use Rattle.gr_broker_relay.specs.Kept.{IsKept}
 use Rattle.gr_broker_relay.specs.Told.{Tells}
 use Rattle.gr_broker.specs.declared.outcome.BrokerFault.{BrokerFault}
 use Rattle.gr_broker.specs.declared.outcome.BrokerFault.TheVariants as refused
-use Rattle.gr_broker.specs.Seen.{broker_at, BrokerView, view_in, log_in, log_said, with_logged, with_failed, broken_at, is_broken, HasJoins}
+use Rattle.gr_broker_relay.specs.Cuts.{tick_cut}
+use Rattle.gr_broker.specs.Seen.{broker_at, BrokerView, view_in, log_in, log_said, with_logged, with_cut_if, with_failed, broken_at, is_broken, HasJoins}
 use Rattle.gr_broker.specs.Of.{IsBrokerOf, LogsStand}
 use Rattle.gr_broker.specs.Told.{log_answer}
-use Rattle.gr_broker.specs.Hosted.{cut_logs, logged, AppendsTwice, AppendsTwiceAt, WakeLeaves, after_mark, after_wake}
+use Rattle.gr_broker.specs.Hosted.{Wakes, WakesAt, WakeLeaves, after_mark, after_wake}
 use Rattle.gr_broker.specs.Host.{HostView, host_with}
-use Rattle.gr_broker.specs.Parts.{PartView, part_with, part_of, part_in, with_part, part_wake, part_mark_logs, part_cut_logs, part_marked, part_woken, part_failed}
+use Rattle.gr_broker.specs.Parts.{PartView, part_with, part_of, part_in, with_part, part_wake, part_mark_logs, part_cut, part_marked, part_woken, part_failed}
 use Rattle.gr_broker.proofs.Reading.{on_ok, each_set, part_is, seen_set}
-use Rattle.gr_broker.proofs.Twice.{second_log}
-use Rattle.gr_broker.proofs.Hosted.{marking_log_is, cutting_log_is}
-use Rattle.gr_broker.proofs.Joined.{Beside, marking_joins, cutting_joins}
+use Rattle.gr_broker.proofs.Wakes.{noted_lane, noted_late, second_log}
+use Rattle.gr_broker.proofs.Hosted.{marking_log_is}
+use Rattle.gr_broker.proofs.Opening.{lanes_there}
+use Rattle.gr_broker.proofs.Joined.{Beside, marking_joins}
 
 -- Which of the two wakes it is
 
@@ -58,14 +63,27 @@ leaves_by f {b} {m} {w} {x} {y} {a} r eb em ew ex ey ea k = record {
   never_damaged = k.never_damaged;
 }
 
--- A log that is here, with a record or none, and then another
+-- A log that is here, with a record or none, and then cut or not
 
-logged_is : (l : LogView) (r : Option Record) → with_logged (Some l) r ≡ Some (logged l r)
+logged_is : (l : LogView) (r : Option Record) → with_logged (Some l) r ≡ Some (appended_if r l)
 logged_is l None = refl
 logged_is l (Some r) = refl
 
-logged_twice : (l : LogView) (r s : Option Record) → with_logged (with_logged (Some l) r) s ≡ Some (logged (logged l r) s)
-logged_twice l r s = ap (λ o. with_logged o s) (logged_is l r) ∙ logged_is (logged l r) s
+cut_is : (l : LogView) (r : Option Record) (cut : Option ℕ) (reclaim : ℕ) → with_cut_if (with_logged (Some l) r) cut reclaim ≡ Some (cut_if cut reclaim (appended_if r l))
+cut_is l r cut reclaim = ap (λ o. with_cut_if o cut reclaim) (logged_is l r)
+
+-- it is on its lanes as before, and the same may join, and have
+cut_lane : (cut : Option ℕ) (reclaim : ℕ) (l : LogView) → (cut_if cut reclaim l).lane ≡ l.lane
+cut_lane None reclaim l = refl
+cut_lane (Some tick) reclaim l = (cut_stays reclaim tick l).0
+
+cut_late : (cut : Option ℕ) (reclaim : ℕ) (l : LogView) → (cut_if cut reclaim l).state.late ≡ l.state.late
+cut_late None reclaim l = refl
+cut_late (Some tick) reclaim l = ap (λ (s : LogState). s.late) (cut_holds reclaim tick l)
+
+cut_joins : (cut : Option ℕ) (reclaim : ℕ) (l : LogView) → (cut_if cut reclaim l).state.joins ≡ l.state.joins
+cut_joins None reclaim l = refl
+cut_joins (Some tick) reclaim l = ap (λ (s : LogState). s.joins) (cut_holds reclaim tick l)
 
 -- two names of one log
 pub some_is : {l m : LogView} → ◌≡◌ {A = Option LogView} (Some l) (Some m) → l ≡ m
@@ -75,21 +93,27 @@ some_is e = cc e
 
 module _ (t : TopologyView) (p b now : ℕ) (v v' : View) (l l' : LogView) where
   abbrev marks : Outcome
-  marks = marking (seen (net_of t) v) p b now v (log_of l.records)
+  marks = marking (seen (net_of t) v) p b now v (said l)
 
   abbrev to_mark : Option Record
-  to_mark = quiet_logs l.records now t.settings.quiet
+  to_mark = quiet_logs (said l) now t.settings.quiet
 
-  abbrev to_cut : Option Record
-  to_cut = cut_logs (net_of t) p b marks.view marks.log
+  abbrev to_cut : Option ℕ
+  to_cut = tick_cut (net_of t) p b marks.view marks.log
+
+  abbrev marked : LogView
+  marked = appended_if to_mark l
+
+  abbrev woken : LogView
+  woken = cut_if to_cut t.settings.reclaim marked
 
   abbrev LeftHere : {T : Type 0} → Result T LogFault → Type 0
-  LeftHere r = WakeLeaves (host_with v l) (host_with marks.view (logged l to_mark)) (host_with marks.view (logged (logged l to_mark) to_cut))
-      (host_with v (failed l)) (host_with marks.view (failed (logged l to_mark))) (host_with v' l') r
+  LeftHere r = WakeLeaves (host_with v l) (host_with marks.view marked) (host_with marks.view woken)
+      (host_with v (failed l)) (host_with marks.view (failed marked)) (host_with v' l') r
 
   woken_view : is_host (net_of t) p b ≡ true → marks.view ≡ (part_wake t p b now (part_with v (Some l))).view
   unfolding wake_host
-  woken_view host = sym (ap (λ (o : Outcome). o.view) (wake_here_is (seen (net_of t) v) p b now v (log_of l.records) host))
+  woken_view host = sym (ap (λ (o : Outcome). o.view) (wake_here_is (seen (net_of t) v) p b now v (said l) host))
 
   -- what is kept then
   pub here_leaves : {T : Type 0} (x : PartView) (r : Result T LogFault) → x ≡ part_with v (Some l) → is_host (net_of t) p b ≡ true → LeftHere r →
@@ -97,81 +121,75 @@ module _ (t : TopologyView) (p b now : ℕ) (v v' : View) (l l' : LogView) where
   here_leaves x r e host k =
       subst (λ (y : PartView). WakeLeaves y (part_marked t p b now y) (part_woken t p b now y) (part_failed y) (part_failed (part_marked t p b now y)) (part_with v' (Some l')) r) (sym e)
       (leaves_by (λ (h : HostView). part_with h.view (Some h.log)) r refl (ap (part_with marks.view) (sym (logged_is l to_mark)))
-      (ap₂ part_with (woken_view host) (sym (logged_twice l to_mark to_cut))) refl
+      (ap₂ part_with (woken_view host) (sym (cut_is l to_mark to_cut t.settings.reclaim))) refl
       (ap (λ o. part_with marks.view (with_failed o)) (sym (logged_is l to_mark))) refl k)
 
   -- its log is that of the machine
-  pub here_log : {T : Type 0} (x : PartView) (r : Result T LogFault) → x ≡ part_with v (Some l) → is_host (net_of t) p b ≡ true → 1 ≤ t.settings.quiet → LeftHere r →
-      OnOk r (let o : Outcome = part_wake t p b now x in log_of l'.records ≡ o.log)
-  here_log x r e host quiet k =
-      on_ok r (λ (h : host_with v' l' ≡ host_with marks.view (logged (logged l to_mark) to_cut)).
-      ap (λ (y : HostView). log_of y.log.records) h
-      ∙ second_log (seen (net_of t) v) p b now v marks.view l (logged l to_mark) refl refl quiet
-      ∙ sym (ap (λ (o : Outcome). o.log) (wake_here_is (seen (net_of t) v) p b now v (log_of l.records) host))
+  pub here_log : {T : Type 0} (x : PartView) (r : Result T LogFault) → x ≡ part_with v (Some l) → is_host (net_of t) p b ≡ true → 1 ≤ t.settings.quiet → IsState l.state → LeftHere r →
+      OnOk r (let o : Outcome = part_wake t p b now x in said l' ≡ o.log)
+  here_log x r e host quiet i k =
+      on_ok r (λ (h : host_with v' l' ≡ host_with marks.view woken).
+      ap (λ (y : HostView). said y.log) h
+      ∙ second_log (seen (net_of t) v) p b now v marks.view l marked refl refl quiet i.held.joins.rise i.apart
+      ∙ sym (ap (λ (o : Outcome). o.log) (wake_here_is (seen (net_of t) v) p b now v (said l) host))
       ∙ ap (λ (y : PartView). let o : Outcome = part_wake t p b now y in o.log) (sym e))
       k.ok
 
-  -- the log stays on its lane
+  -- what is so before the call, after its mark, and after it, is so then
+  here_still : {T : Type 0} (P : HostView → Type 0) (r : Result T LogFault) → LeftHere r → P (host_with v l) → P (host_with marks.view marked) → P (host_with marks.view woken)
+      → P (host_with v (failed l)) → P (host_with marks.view (failed marked)) → P (host_with v' l')
+  here_still P (Ok told) k a m w x y = subst P (sym k.ok) w
+  here_still P (Err fault.Memory) k a m w x y = ⊎_elim (λ e. subst P (sym e) a) (λ e. subst P (sym e) m) (k.memory refl)
+  here_still P (Err fault.Disk) k a m w x y = ⊎_elim (λ e. subst P (sym e) x) (λ e. subst P (sym e) y) (k.failed refl)
+  here_still P (Err fault.Reopen) k a m w x y = subst P (sym (k.closed refl)) a
+  here_still P (Err (fault.Damaged at)) k a m w x y = absurd (k.never_damaged at refl)
+
+  -- the log stays on its lanes
   pub here_lane : {T : Type 0} (r : Result T LogFault) → LeftHere r → l'.lane ≡ l.lane
-  here_lane (Ok told) k = ap (λ (y : HostView). y.log.lane) k.ok
-  here_lane (Err fault.Memory) k = ⊎_elim (λ e. ap (λ (y : HostView). y.log.lane) e) (λ e. ap (λ (y : HostView). y.log.lane) e) (k.memory refl)
-  here_lane (Err fault.Disk) k = ⊎_elim (λ e. ap (λ (y : HostView). y.log.lane) e) (λ e. ap (λ (y : HostView). y.log.lane) e) (k.failed refl)
-  here_lane (Err fault.Reopen) k = ap (λ (y : HostView). y.log.lane) (k.closed refl)
-  here_lane (Err (fault.Damaged at)) k = absurd (k.never_damaged at refl)
+  here_lane r k =
+      let m : marked.lane ≡ l.lane = noted_lane to_mark l in
+      here_still (λ (h : HostView). h.log.lane ≡ l.lane) r k refl m (cut_lane to_cut t.settings.reclaim marked ∙ m) refl m
 
   -- and the subscribers that may join stay those
-  pub here_late : {T : Type 0} (r : Result T LogFault) → LeftHere r → l'.late ≡ l.late
-  here_late (Ok told) k = ap (λ (y : HostView). y.log.late) k.ok
-  here_late (Err fault.Memory) k = ⊎_elim (λ e. ap (λ (y : HostView). y.log.late) e) (λ e. ap (λ (y : HostView). y.log.late) e) (k.memory refl)
-  here_late (Err fault.Disk) k = ⊎_elim (λ e. ap (λ (y : HostView). y.log.late) e) (λ e. ap (λ (y : HostView). y.log.late) e) (k.failed refl)
-  here_late (Err fault.Reopen) k = ap (λ (y : HostView). y.log.late) (k.closed refl)
-  here_late (Err (fault.Damaged at)) k = absurd (k.never_damaged at refl)
+  pub here_late : {T : Type 0} (r : Result T LogFault) → LeftHere r → l'.state.late ≡ l.state.late
+  here_late r k =
+      let m : marked.state.late ≡ l.state.late = noted_late to_mark l in
+      here_still (λ (h : HostView). h.log.state.late ≡ l.state.late) r k refl m (cut_late to_cut t.settings.reclaim marked ∙ m) refl m
 
   -- and the joins that are held are still its own
   pub here_joined : {T : Type 0} (r : Result T LogFault) → LeftHere r → HasJoins v l → HasJoins v' l'
-  here_joined r k h = left r k
+  here_joined r k h = here_still (λ (y : HostView). HasJoins y.view y.log) r k h at_mark at_cut h at_mark
     where
       net : Net
       net = seen (net_of t) v
 
       -- as after the mark, and as after the cut
-      at_mark : HasJoins marks.view (logged l to_mark)
-      at_mark = marking_joins net p b now v (log_of l.records) h ∙ ap (λ (x : Log). x.joins) (sym (marking_log_is net p b now v l.records))
+      at_mark : HasJoins marks.view marked
+      at_mark = marking_joins net p b now v (said l) h ∙ ap (λ (x : Log). x.joins) (sym (marking_log_is net p b now v l))
 
-      at_cut : HasJoins marks.view (logged (logged l to_mark) to_cut)
-      at_cut = marking_joins net p b now v (log_of l.records) h ∙ sym (cutting_joins net p b marks.view marks.log)
-          ∙ ap (λ (x : Log). x.joins) (sym (cutting_log_is net p b marks.view (logged l to_mark).records marks.log (marking_log_is net p b now v l.records)))
-
-      is : (u : View) (m : LogView) → host_with v' l' ≡ host_with u m → HasJoins u m → HasJoins v' l'
-      is u m e k = subst (λ (y : HostView). HasJoins y.view y.log) (sym e) k
-
-      left : {T : Type 0} (r : Result T LogFault) → LeftHere r → HasJoins v' l'
-      left (Ok told) s = is marks.view (logged (logged l to_mark) to_cut) s.ok at_cut
-      left (Err fault.Memory) s = ⊎_elim (λ e. is v l e h) (λ e. is marks.view (logged l to_mark) e at_mark) (s.memory refl)
-      left (Err fault.Disk) s = ⊎_elim (λ e. is v (failed l) e h) (λ e. is marks.view (failed (logged l to_mark)) e at_mark) (s.failed refl)
-      left (Err fault.Reopen) s = is v l (s.closed refl) h
-      left (Err (fault.Damaged at)) s = absurd (s.never_damaged at refl)
+      at_cut : HasJoins marks.view woken
+      at_cut = at_mark ∙ sym (cut_joins to_cut t.settings.reclaim marked)
 
   -- what is told
   pub here_told : (x : PartView) (r : Result Answer LogFault) → x ≡ part_with v (Some l) → is_host (net_of t) p b ≡ true →
-      IfOk r (λ told. Tells (wake_host (seen (net_of t) v) p b now v (log_of l.records)) told) → IfOk r (λ told. Tells (part_wake t p b now x) told)
+      IfOk r (λ told. Tells (wake_host (seen (net_of t) v) p b now v (said l)) told) → IfOk r (λ told. Tells (part_wake t p b now x) told)
   here_told x r e host k =
       subst (λ (y : PartView). IfOk r (λ told. Tells (part_wake t p b now y) told)) (sym e)
-      (subst (λ (o : Outcome). IfOk r (λ told. Tells o told)) (sym (wake_here_is (seen (net_of t) v) p b now v (log_of l.records) host)) k)
+      (subst (λ (o : Outcome). IfOk r (λ told. Tells o told)) (sym (wake_here_is (seen (net_of t) v) p b now v (said l) host)) k)
 
-  -- its lane
-  pub here_twice : {T : Type 0} (x : PartView) (r : Result T LogFault) (before after : ℕ → Lane) (m : LogView) (n : ℕ) → x ≡ part_with v (Some l) → x.log ≡ Some m → l.lane ≡ n →
-      AppendsTwice l to_mark to_cut (before l.lane) (after l.lane) r → AppendsTwice m (part_mark_logs t now x) (part_cut_logs t p b now x) (before n) (after n) r
-  here_twice x r before after m n e is lane k =
-      subst (λ (z : LogView). AppendsTwice z (part_mark_logs t now x) (part_cut_logs t p b now x) (before n) (after n) r) (some_is (sym (ap (λ (y : PartView). y.log) e) ∙ is))
-      (subst (λ (y : PartView). AppendsTwice l (part_mark_logs t now y) (part_cut_logs t p b now y) (before n) (after n) r) (sym e)
-      (subst (λ (j : ℕ). AppendsTwice l to_mark to_cut (before j) (after j) r) lane k))
+  -- its lanes
+  pub here_wakes : {T : Type 0} (x : PartView) (r : Result T LogFault) (before after : ℕ → Lane) (m : LogView) (n : ℕ) → x ≡ part_with v (Some l) → x.log ≡ Some m → l.lane ≡ n →
+      Wakes l to_mark to_cut t.settings.reclaim (lanes_at before l.lane) (lanes_at after l.lane) r → Wakes m (part_mark_logs t now x) (part_cut t p b now x) t.settings.reclaim (lanes_at before n) (lanes_at after n) r
+  here_wakes x r before after m n e is lane k =
+      subst (λ (z : LogView). Wakes z (part_mark_logs t now x) (part_cut t p b now x) t.settings.reclaim (lanes_at before n) (lanes_at after n) r) (some_is (sym (ap (λ (y : PartView). y.log) e) ∙ is))
+      (subst (λ (y : PartView). Wakes l (part_mark_logs t now y) (part_cut t p b now y) t.settings.reclaim (lanes_at before n) (lanes_at after n) r) (sym e)
+      (subst (λ (j : ℕ). Wakes l to_mark to_cut t.settings.reclaim (lanes_at before j) (lanes_at after j) r) lane k))
 
-  -- when a broken log is appended to
+  -- when a broken log is written to
   pub here_reopen : {T : Type 0} (x : PartView) (r : Result T LogFault) → x ≡ part_with v (Some l) → (IsErrOf r fault.Reopen ↔ ((l.broken ≡ true) × (IsSome to_mark ⊎ IsSome to_cut))) →
-      IsErrOf r fault.Reopen ↔ ((is_broken x.log ≡ true) × (IsSome (part_mark_logs t now x) ⊎ IsSome (part_cut_logs t p b now x)))
+      IsErrOf r fault.Reopen ↔ ((is_broken x.log ≡ true) × (IsSome (part_mark_logs t now x) ⊎ IsSome (part_cut t p b now x)))
   here_reopen x r e k =
-      subst (λ (y : PartView). IsErrOf r fault.Reopen ↔ ((is_broken y.log ≡ true) × (IsSome (part_mark_logs t now y) ⊎ IsSome (part_cut_logs t p b now y)))) (sym e) k
+      subst (λ (y : PartView). IsErrOf r fault.Reopen ↔ ((is_broken y.log ≡ true) × (IsSome (part_mark_logs t now y) ⊎ IsSome (part_cut t p b now y)))) (sym e) k
 
 -- A publisher that is elsewhere
 
@@ -195,7 +213,7 @@ module _ (t : TopologyView) (p b now : ℕ) (x : PartView) (host : is_host (net_
       WakeLeaves x (part_marked t p b now x) (part_woken t p b now x) (part_failed x) (part_failed (part_marked t p b now x)) x' (Ok told)
   below_ok x' told none same view = record {
     ok = ap₂ part_with (view (log_said x.log) ∙ sym (ap (λ (o : Outcome). o.view) (wake_below_is (seen (net_of t) x.view) p b now x.view (log_said x.log) host)))
-        (same ∙ none ∙ sym (ap (λ o. with_logged (with_logged o (part_mark_logs t now x)) (part_cut_logs t p b now x)) none));
+        (same ∙ none ∙ sym (ap (λ o. with_cut_if (with_logged o (part_mark_logs t now x)) (part_cut t p b now x) t.settings.reclaim) none));
     memory = λ h. absurd (cc h);
     failed = λ h. absurd (cc h);
     closed = λ h. absurd (cc h);
@@ -251,7 +269,7 @@ module _ (b : BrokerView) (p : ℕ) (within : p < length b.logs) where
 
   -- it is still a broker of its topology
   pub broker_fits : (t : TopologyView) (x : PartView) → IsBrokerOf t b → p < length t.publishers → IsKept (net_of t) p b.number x.view → is_some x.log ≡ is_some (log_in b p) →
-      ((l : LogView) → x.log ≡ Some l → l.lane ≡ 2 * p) → ((l : LogView) → x.log ≡ Some l → l.late ≡ t.late) → Beside x.view x.log → IsBrokerOf t (with_part b p x)
+      ((l : LogView) → x.log ≡ Some l → l.lane ≡ 2 * p) → ((l : LogView) → x.log ≡ Some l → l.state.late ≡ t.late) → Beside x.view x.log → IsBrokerOf t (with_part b p x)
   broker_fits t x f lt kept hosted lanes late joined = record {
     number = f.number;
     here = f.here;
@@ -279,17 +297,17 @@ module _ (b : BrokerView) (p : ℕ) (within : p < length b.logs) where
       at q l e (inl same) = lanes l (sym (log_put x) ∙ ap (log_in (with_part b p x)) (sym same) ∙ e) ∙ ap (λ (n : ℕ). 2 * n) (sym same)
       at q l e (inr other) = f.lanes q l (sym (get_or-set_other b.logs p q x.log None other) ∙ e)
 
-      of_topology : (q : ℕ) (l : LogView) → log_in (with_part b p x) q ≡ Some l → (q ≡ p) ⊎ (q ≢ p) → l.late ≡ t.late
+      of_topology : (q : ℕ) (l : LogView) → log_in (with_part b p x) q ≡ Some l → (q ≡ p) ⊎ (q ≢ p) → l.state.late ≡ t.late
       of_topology q l e (inl same) = late l (sym (log_put x) ∙ ap (log_in (with_part b p x)) (sym same) ∙ e)
       of_topology q l e (inr other) = f.late q l (sym (get_or-set_other b.logs p q x.log None other) ∙ e)
 
   -- and each log stands
-  pub broker_stands : (before after : ℕ → Lane) (x : PartView) → LogsStand before b → ((l : LogView) → x.log ≡ Some l → IsReady l (after (2 * p))) → ((n : ℕ) → n ≢ 2 * p → after n ≡ before n) → LogsStand after (with_part b p x)
+  pub broker_stands : (before after : ℕ → Lane) (x : PartView) → LogsStand before b → ((l : LogView) → x.log ≡ Some l → IsReady l (lanes_at after (2 * p))) → ((n : ℕ) → AwayFrom (2 * p) n → after n ≡ before n) → LogsStand after (with_part b p x)
   broker_stands before after x old new others q l e = at (cases_eq q p)
     where
-      at : (q ≡ p) ⊎ (q ≢ p) → IsReady l (after (2 * q))
-      at (inl same) = subst (λ (n : ℕ). IsReady l (after (2 * n))) (sym same) (new l (sym (log_put x) ∙ ap (log_in (with_part b p x)) (sym same) ∙ e))
-      at (inr other) = subst (IsReady l) (sym (others (2 * q) (λ h. other (omega (arith, h))))) (old q l (sym (get_or-set_other b.logs p q x.log None other) ∙ e))
+      at : (q ≡ p) ⊎ (q ≢ p) → IsReady l (lanes_at after (2 * q))
+      at (inl same) = subst (λ (n : ℕ). IsReady l (lanes_at after (2 * n))) (sym same) (new l (sym (log_put x) ∙ ap (log_in (with_part b p x)) (sym same) ∙ e))
+      at (inr other) = subst (IsReady l) (sym (lanes_there before after p q others (λ h. other (sym h)))) (old q l (sym (get_or-set_other b.logs p q x.log None other) ∙ e))
 
 -- An answer of the log as one of the broker
 
@@ -335,12 +353,12 @@ module _ (s : Seat) (held : List Held) (p : ℕ) where
   pub log_seen : (h : Held) → p < length (broker_at s held).logs → h.log ≡ log_in (broker_at s (set held p h)) p
   log_seen h within = sym (log_put (broker_at s held) p within (part_of h)) ∙ ap (λ (b : BrokerView). log_in b p) (seen_put h)
 
--- the lane of a publisher that is here
-pub twice_at : (b : BrokerView) (p : ℕ) (first second : Option Record) (before after : ℕ → Lane) (r : Result Answer LogFault) →
-    ((l : LogView) → log_in b p ≡ Some l → AppendsTwice l first second (before (2 * p)) (after (2 * p)) r) → AppendsTwiceAt b p first second before after r
-twice_at b p first second before after r k = go (log_in b p) k
+-- the lanes of a publisher that is here
+pub wakes_at : (b : BrokerView) (p : ℕ) (mark : Option Record) (cut : Option ℕ) (reclaim : ℕ) (before after : ℕ → Lane) (r : Result Answer LogFault) →
+    ((l : LogView) → log_in b p ≡ Some l → Wakes l mark cut reclaim (lanes_at before (2 * p)) (lanes_at after (2 * p)) r) → WakesAt b p mark cut reclaim before after r
+wakes_at b p mark cut reclaim before after r k = go (log_in b p) k
   where
-    go : (o : Option LogView) → ((l : LogView) → o ≡ Some l → AppendsTwice l first second (before (2 * p)) (after (2 * p)) r) →
-        elim o as (λ _. Type 0) [ Some l ↦ AppendsTwice l first second (before (2 * p)) (after (2 * p)) r | None ↦ Unit {0} ]
+    go : (o : Option LogView) → ((l : LogView) → o ≡ Some l → Wakes l mark cut reclaim (lanes_at before (2 * p)) (lanes_at after (2 * p)) r) →
+        elim o as (λ _. Type 0) [ Some l ↦ Wakes l mark cut reclaim (lanes_at before (2 * p)) (lanes_at after (2 * p)) r | None ↦ Unit {0} ]
     go None h = tt
     go (Some l) h = h l refl

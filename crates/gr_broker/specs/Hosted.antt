@@ -1,24 +1,25 @@
 -- A publisher's calls at its host: what is logged, told and kept. Each is at the net that what is held of it shows
-use Rattle.std.specs.Prelude.{◌≡◌, ◌≢◌, ◌⊎◌, ℕ, false, nat_lt, if◌then◌else◌, List, Option, Some, None, Result}
-use Rattle.std.specs.Prelude.{Err, IsErrOf, OnOk}
+use Rattle.std.specs.Prelude.{◌≡◌, ◌≢◌, ◌⊎◌, ℕ, false, List, Option, Some, None, Result, Err, IsErrOf, OnOk}
 use Rattle.gr_event.specs.declared.event.Event.{Event}
-use Rattle.gr_out.specs.Lane.{Lane, moment, LeftSince}
+use Rattle.gr_out.specs.Lane.{Lane}
 use Rattle.gr_publog.specs.declared.record.Record.{Record}
-use Rattle.gr_publog.specs.declared.record.Record.TheVariants as entry
 use Rattle.gr_publog.specs.declared.record.LogFault.{LogFault}
 use Rattle.gr_publog.specs.declared.record.LogFault.TheVariants as fault
-use Rattle.gr_publog.specs.Crash.{LogView}
-use Rattle.gr_publog.specs.Calls.{Appends, Reads, records_with}
+use Rattle.gr_publog.specs.Views.{LogView, Lanes, lanes_at, LeftPair, ReadsAs}
+use Rattle.gr_publog.specs.Calls.{Appends, appended_if, state_if}
 use Rattle.gr_know.specs.Values.{Known}
 use Rattle.gr_pubend.specs.declared.answers.Joined.TheVariants as joins
 use Rattle.gr_pubend.specs.Answers.{published, quieted, joined_at, event_of, mark_of, join_of}
+use Rattle.gr_pubend.specs.Cuts.{Cuts, cut_state}
 use Rattle.gr_topo.specs.Topology.{TopologyView}
-use Rattle.gr_model.specs.Net.{Net, keeps_horizon}
+use Rattle.gr_model.specs.Net.{Net}
 use Rattle.gr_model.specs.NetOf.{net_of}
-use Rattle.gr_model.specs.Broker.{View, Log, Outcome as MachineOutcome, publish, joining, marking, wake, consolidated}
-use Rattle.gr_model.specs.Broker.{done_upto, seen, with_join, with_joins, joining_by, view_joined}
+use Rattle.gr_model.specs.Broker.{View, Log, Outcome as MachineOutcome, publish, joining, marking, wake, seen}
+use Rattle.gr_model.specs.Broker.{with_join, with_joins, joining_by, view_joined}
+use Rattle.gr_broker_relay.specs.Cuts.{tick_cut}
 use Rattle.gr_broker.specs.Lanes.{log_lane}
 use Rattle.gr_broker.specs.Seen.{BrokerView, view_in, log_in, machine_log, with_view, with_log, with_logged, logged_at}
+use Rattle.gr_broker.specs.Seen.{with_cut_if}
 
 -- A publish
 
@@ -69,17 +70,12 @@ wake_at t b p now = let v : View = view_in b p in wake (seen (net_of t) v) p b.n
 abbrev pub mark_at : TopologyView → BrokerView → ℕ → ℕ → MachineOutcome
 mark_at t b p now = let v : View = view_in b p in marking (seen (net_of t) v) p b.number now v (machine_log b p)
 
--- the record of the mark, or none; that of the cut at what is kept, or none
+-- the record of the mark, or none; the tick of the cut at what is kept then, or none
 abbrev pub mark_logs_at : TopologyView → BrokerView → ℕ → ℕ → Option Record
 mark_logs_at t b p now = mark_of (quieted (machine_log b p) now t.settings.quiet)
 
-abbrev pub cut_logs : Net → ℕ → ℕ → View → Log → Option Record
-cut_logs net p b v log =
-    let tick : ℕ = done_upto (consolidated (keeps_horizon net p b) v.horizon v.wants) log.settled in
-    if nat_lt log.cut tick then Some (entry.Cut tick) else None
-
-abbrev pub cut_logs_at : TopologyView → BrokerView → ℕ → ℕ → Option Record
-cut_logs_at t b p now = let o : MachineOutcome = mark_at t b p now in cut_logs (net_of t) p b.number o.view o.log
+abbrev pub cut_at : TopologyView → BrokerView → ℕ → ℕ → Option ℕ
+cut_at t b p now = let o : MachineOutcome = mark_at t b p now in tick_cut (net_of t) p b.number o.view o.log
 
 -- the broker after the mark, and after the whole call
 abbrev pub after_mark : TopologyView → BrokerView → ℕ → ℕ → BrokerView
@@ -89,38 +85,38 @@ abbrev pub after_wake : TopologyView → BrokerView → ℕ → ℕ → BrokerVi
 after_wake t b p now =
     let o : MachineOutcome = wake_at t b p now in
     let marked : Option LogView = with_logged (log_in b p) (mark_logs_at t b p now) in
-    let log : Option LogView = with_logged marked (cut_logs_at t b p now) in
+    let log : Option LogView = with_cut_if marked (cut_at t b p now) t.settings.reclaim in
     with_view (with_log b p log) p o.view
 
--- The lane of a publisher
+-- The lanes of a publisher
 
--- what a call that logs a record, or none, does to the lane of a publisher that is here
+-- what a call that logs a record, or none, does to the lanes of a publisher that is here
 abbrev pub AppendsAt : {T : Type 0} → BrokerView → ℕ → Option Record → (ℕ → Lane) → (ℕ → Lane) → Result T LogFault
     → Type 0
 AppendsAt b p logged before after result =
-    elim (log_in b p) [ Some l ↦ Appends l logged (before (log_lane p)) (after (log_lane p)) result | None ↦ Unit {0} ]
-
--- a log with a further record, or none
-abbrev pub logged : LogView → Option Record → LogView
-logged l r = record { lane = l.lane; records = records_with l.records r; broken = l.broken; late = l.late }
-
--- What a call does to a lane that logs one record or none, and then another or none.
-pub record AppendsTwice {T : Type 0} (l : LogView) (first second : Option Record) (before after : Lane)
-    (result : Result T LogFault) : Type 0 where
-  pub between : Lane
-  pub answer : Result (Unit {0}) LogFault  -- of the first
-  pub one : Appends l first before between answer
-  pub stops : (e : LogFault) → answer ≡ Err e → (after ≡ between) × (result ≡ Err e)
-  pub two : OnOk answer (Appends (logged l first) second between after result)
-  -- at every moment of the call a crash leaves the list before, with the first record, or with both
-  pub any_moment : l.broken ≡ false → (image : List ℕ) → LeftSince after (moment before) image
-      → Reads l.late l.records first image ⊎ Reads l.late (records_with l.records first) second image
-
-abbrev pub AppendsTwiceAt : {T : Type 0} → BrokerView → ℕ → Option Record → Option Record → (ℕ → Lane) → (ℕ → Lane)
-    → Result T LogFault → Type 0
-AppendsTwiceAt b p first second before after result =
     elim (log_in b p) [
-      | Some l ↦ AppendsTwice l first second (before (log_lane p)) (after (log_lane p)) result
+      | Some l ↦ Appends l logged (lanes_at before (log_lane p)) (lanes_at after (log_lane p)) result
+      | None ↦ Unit {0}
+    ]
+
+-- What a wake does to the two lanes of a log: it logs a mark, or none, and then cuts it at a tick, or not.
+pub record Wakes {T : Type 0} (l : LogView) (mark : Option Record) (cut : Option ℕ) (reclaim : ℕ) (before after : Lanes)
+    (result : Result T LogFault) : Type 0 where
+  pub between : Lanes
+  pub answer : Result (Unit {0}) LogFault  -- of the first
+  pub one : Appends l mark before between answer
+  pub stops : (e : LogFault) → answer ≡ Err e → (after ≡ between) × (result ≡ Err e)
+  pub two : OnOk answer (Cuts (appended_if mark l) cut reclaim between after result)
+  -- at every moment of the call a crash leaves what was held before, that with the mark, or that with both
+  pub any_moment : l.broken ≡ false → (a b : List ℕ) → LeftPair before after a b
+      → ReadsAs l.state a b
+      ⊎ (ReadsAs (state_if mark l.state) a b ⊎ ReadsAs (cut_state cut (state_if mark l.state)) a b)
+
+abbrev pub WakesAt : {T : Type 0} → BrokerView → ℕ → Option Record → Option ℕ → ℕ → (ℕ → Lane) → (ℕ → Lane)
+    → Result T LogFault → Type 0
+WakesAt b p mark cut reclaim before after result =
+    elim (log_in b p) [
+      | Some l ↦ Wakes l mark cut reclaim (lanes_at before (log_lane p)) (lanes_at after (log_lane p)) result
       | None ↦ Unit {0}
     ]
 

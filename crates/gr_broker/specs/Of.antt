@@ -2,8 +2,7 @@
 use Rattle.std.specs.Prelude.{◌≡◌, ℕ, ◌<◌, List, length, map, get_or, Option, Some, None, is_some}
 use Rattle.gr_topo.specs.Topology.{TopologyView, subscribers_of}
 use Rattle.gr_out.specs.Lane.{Lane}
-use Rattle.gr_publog.specs.Crash.{LogView}
-use Rattle.gr_publog.specs.Calls.{IsReady}
+use Rattle.gr_publog.specs.Views.{LogView, lanes_at, IsReady}
 use Rattle.gr_model.specs.Net.{numbers, is_host}
 use Rattle.gr_model.specs.NetOf.{net_of}
 use Rattle.gr_model.specs.Broker.{View}
@@ -27,9 +26,9 @@ pub record IsBrokerOf (t : TopologyView) (b : BrokerView) : Type 0 where
   pub kept : (p : ℕ) → p < length t.publishers → IsKept (net_of t) p b.number (view_in b p)
   pub hosted : (p : ℕ) → p < length t.publishers → is_some (log_in b p) ≡ is_host (net_of t) p b.number
   pub lanes : (p : ℕ) (l : LogView) → log_in b p ≡ Some l → l.lane ≡ log_lane p
-  pub late : (p : ℕ) (l : LogView) → log_in b p ≡ Some l → l.late ≡ t.late
+  pub late : (p : ℕ) (l : LogView) → log_in b p ≡ Some l → l.state.late ≡ t.late
   pub joined : HoldJoins b.views b.logs
 
 -- each log that is not broken stands as the last call left it
 abbrev pub LogsStand : (ℕ → Lane) → BrokerView → Type 0
-LogsStand lanes b = (p : ℕ) (l : LogView) → log_in b p ≡ Some l → IsReady l (lanes (log_lane p))
+LogsStand lanes b = (p : ℕ) (l : LogView) → log_in b p ≡ Some l → IsReady l (lanes_at lanes (log_lane p))

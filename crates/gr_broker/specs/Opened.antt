@@ -1,17 +1,17 @@
 -- A broker starts over the logs that its lanes hold
-use Rattle.std.specs.Prelude.{◌≡◌, ◌≢◌, ◌⊎◌, ℕ, ◌<◌, true, false, ◌&&◌, if◌then◌else◌, List, [], ◌++◌, length}
-use Rattle.std.specs.Prelude.{Some, Ok, Err, IsOk, IsSome, flat_map}
+use Rattle.std.specs.Prelude.{◌≡◌, ◌⊎◌, ℕ, ◌<◌, true, false, ◌&&◌, if◌then◌else◌, List, [], ◌++◌, length}
+use Rattle.std.specs.Prelude.{Some, Result, Ok, Err, IsOk, IsSome, flat_map}
 use Rattle.gr_topo.specs.Topology.{TopologyView}
-use Rattle.gr_out.specs.Lane.{Lane, content, moment, MayLeave, LeftSince}
-use Rattle.gr_publog.specs.Text.{log_text}
-use Rattle.gr_publog.specs.Crash.{LogView}
-use Rattle.gr_publog.specs.Calls.{Opens}
+use Rattle.gr_out.specs.Lane.{Lane, content}
+use Rattle.gr_publog.specs.Lanes.{Found, lanes_text, state_in}
+use Rattle.gr_publog.specs.Views.{LogView, Lanes, lanes_at, AwayFrom, LeftPair, MayLeavePair}
+use Rattle.gr_publog.specs.Opens.{Opens}
 use Rattle.gr_model.specs.Net.{Net, numbers, is_host, not_empty}
 use Rattle.gr_model.specs.NetOf.{net_of}
 use Rattle.gr_model.specs.Broker.{Log, View, Outcome as MachineOutcome, learn, seen, started}
 use Rattle.gr_model.specs.Opening.{reopened_line}
 use Rattle.gr_broker_relay.specs.declared.outcome.Outcome.{Outcome}
-use Rattle.gr_broker.specs.Lanes.{log_lane}
+use Rattle.gr_broker.specs.Lanes.{log_lane, GoesOnBoth}
 use Rattle.gr_broker.specs.Seen.{BrokerView, view_in, log_in, machine_log}
 use Rattle.gr_broker.specs.Of.{IsBrokerOf}
 
@@ -37,21 +37,30 @@ pub record StartsOver (t : TopologyView) (n : ℕ) (b : BrokerView) (told : Outc
   pub sends_none : (p : ℕ) → p < length t.publishers → (opened_at (net_of t) p n (machine_log b p)).frames ≡ []
   pub whole : (p : ℕ) (l : LogView) → log_in b p ≡ Some l → l.broken ≡ false
 
--- the lane of each publisher that is here was opened as its log, and no other lane was touched
+-- the lanes of each publisher that is here were opened as its log, and no other lane was touched
 pub record OpensLanes (t : TopologyView) (b : BrokerView) (before after : ℕ → Lane) : Type 0 where
   pub opened : (p : ℕ) (l : LogView) → log_in b p ≡ Some l
-      → Opens t.late (before (log_lane p)) (after (log_lane p)) (Ok l)
-  pub others : (n : ℕ) → ((p : ℕ) → IsSome (log_in b p) → n ≢ log_lane p) → after n ≡ before n
+      → Opens t.late (log_lane p) (lanes_at before (log_lane p)) (lanes_at after (log_lane p)) (Ok l)
+  pub others : (n : ℕ) → ((p : ℕ) → IsSome (log_in b p) → AwayFrom (log_lane p) n) → after n ≡ before n
 
--- at every moment a crash leaves what it might have left before, or what reads as before
-abbrev pub LosesNothing : List ℕ → Lane → Lane → Type 0
-LosesNothing late before after = (image : List ℕ) → LeftSince after (moment before) image
-    → MayLeave before image ⊎ (log_text late image ≡ log_text late (content before))
+-- Two lanes have lost nothing: at every moment until both are synced a crash leaves a pair that it might have left
+-- before, and from then on such a pair, or one that holds what the two held.
+pub record LosesNothing (late : List ℕ) (before after : Lanes) : Type 0 where
+  pub synced : Lanes
+  pub on_synced : GoesOnBoth before synced
+  pub on : GoesOnBoth synced after
+  pub before_sync : (a b : List ℕ) → LeftPair before synced a b → MayLeavePair before a b
+  pub any_moment : (a b : List ℕ) → LeftPair synced after a b → MayLeavePair before a b
+      ⊎ (state_in late a b ≡ state_in late (content before.first) (content before.second))
 
--- the lane of a publisher at a broker holds no log, with the place of its first fault; those of the publishers before
+-- what the lanes of a publisher stand for
+abbrev pub found_at : TopologyView → (ℕ → Lane) → ℕ → Result Found ℕ
+found_at t lanes p = let ls = lanes_at lanes (log_lane p) in lanes_text t.late (content ls.first) (content ls.second)
+
+-- the lanes of a publisher at a broker hold no log, with the place of the first fault; those of the publishers before
 -- it hold one
 pub record IsDamagedAt (t : TopologyView) (b p at : ℕ) (lanes : ℕ → Lane) : Type 0 where
   pub publisher : p < length t.publishers
   pub hosted : is_host (net_of t) p b ≡ true
-  pub fault : log_text t.late (content (lanes (log_lane p))) ≡ Err at
-  pub before : (q : ℕ) → q < p → is_host (net_of t) q b ≡ true → IsOk (log_text t.late (content (lanes (log_lane q))))
+  pub fault : found_at t lanes p ≡ Err at
+  pub before : (q : ℕ) → q < p → is_host (net_of t) q b ≡ true → IsOk (found_at t lanes q)

@@ -2,8 +2,9 @@
 use Rattle.std.specs.Prelude.{◌≡◌, ℕ, ◌<◌, Bool, false, List, length, map, get_or, set, Option, Some, None, IsSome}
 use Rattle.gr_edge.specs.Pass.{Wanting}
 use Rattle.gr_publog.specs.declared.record.Record.{Record}
-use Rattle.gr_publog.specs.Crash.{LogView, with_record, failed}
-use Rattle.gr_pubend.specs.Log.{Log, log_of, empty_log}
+use Rattle.gr_publog.specs.Views.{LogView, appended, failed}
+use Rattle.gr_pubend.specs.Log.{Log, empty_log, said}
+use Rattle.gr_pubend.specs.Cuts.{cut_if}
 use Rattle.gr_model.specs.Broker.{View}
 use Rattle.gr_model.specs.World.{blank_view}
 use Rattle.gr_broker_relay.specs.declared.held.Held.{Held}
@@ -28,10 +29,10 @@ view_in b p = get_or b.views p blank_view
 abbrev pub log_in : BrokerView → ℕ → Option LogView
 log_in b p = get_or b.logs p None
 
--- the machine's log of these records; where the publisher is elsewhere no log is looked at
+-- the machine's log of one that is here; where the publisher is elsewhere no log is looked at
 abbrev pub log_said : Option LogView → Log
 log_said None = empty_log
-log_said (Some l) = log_of l.records
+log_said (Some l) = said l
 
 abbrev pub machine_log : BrokerView → ℕ → Log
 machine_log b p = log_said (log_in b p)
@@ -59,7 +60,12 @@ with_log b p l = record {
 abbrev pub with_logged : Option LogView → Option Record → Option LogView
 with_logged None r = None
 with_logged (Some l) None = Some l
-with_logged (Some l) (Some r) = Some (with_record r l)
+with_logged (Some l) (Some r) = Some (appended r l)
+
+-- a log cut at a tick, or not
+abbrev pub with_cut_if : Option LogView → Option ℕ → ℕ → Option LogView
+with_cut_if None cut reclaim = None
+with_cut_if (Some l) cut reclaim = Some (cut_if cut reclaim l)
 
 -- a log that the disk failed
 abbrev pub with_failed : Option LogView → Option LogView
@@ -80,7 +86,7 @@ logged_at b p logged v = with_view (with_log b p (with_logged (log_in b p) logge
 
 -- the joins that are held are those of a log
 abbrev pub HasJoins : View → LogView → Type 0
-HasJoins v l = v.joins ≡ (log_of l.records).joins
+HasJoins v l = v.joins ≡ l.state.joins
 
 -- the publisher is at the broker
 abbrev pub IsHosted : BrokerView → ℕ → Type 0

@@ -1,13 +1,13 @@
 -- A broker's start, publisher by publisher: what is kept of those so far, and what was done to their lanes
-use Rattle.std.specs.Prelude.{◌≡◌, ◌≢◌, ℕ, ◌<◌, Bool, true, false, List, [], length, map, get_or, Option, Some}
+use Rattle.std.specs.Prelude.{◌≡◌, ℕ, ◌<◌, Bool, true, false, List, [], length, map, get_or, Option, Some}
 use Rattle.std.specs.Prelude.{None, Ok, is_some, flat_map}
 use Rattle.gr_event.specs.Joins.{Joins}
 use Rattle.gr_topo.specs.Topology.{TopologyView, children_of}
 use Rattle.gr_out.specs.Lane.{Lane}
 use Rattle.gr_publog.specs.declared.record.LogFault.{LogFault}
 use Rattle.gr_publog.specs.declared.record.LogFault.TheVariants as fault
-use Rattle.gr_publog.specs.Crash.{LogView}
-use Rattle.gr_publog.specs.Calls.{Opens}
+use Rattle.gr_publog.specs.Views.{LogView, lanes_at, AwayFrom}
+use Rattle.gr_publog.specs.Opens.{Opens}
 use Rattle.gr_know.specs.Values.{Known}
 use Rattle.gr_model.specs.declared.report.Report.{Report}
 use Rattle.gr_model.specs.Net.{numbers, is_host}
@@ -52,7 +52,7 @@ pub record IsStarted (t : TopologyView) (p b : ℕ) (v : View) (l : Option LogVi
   pub hosted : is_some l ≡ is_host (net_of t) p b
   pub lane : (m : LogView) → l ≡ Some m → m.lane ≡ log_lane p
   pub whole : (m : LogView) → l ≡ Some m → m.broken ≡ false
-  pub late : (m : LogView) → l ≡ Some m → m.late ≡ t.late
+  pub late : (m : LogView) → l ≡ Some m → m.state.late ≡ t.late
   pub joined : (m : LogView) → l ≡ Some m → HasJoins v m
 
 -- the same of a site: whether its publisher is here, what is kept of it, and what its start tells
@@ -73,13 +73,15 @@ pub record AreStarted (t : TopologyView) (b upto : ℕ) (views : List View) (log
   pub each : (p : ℕ) → p < upto → IsStarted t p b (get_or views p blank_view) (get_or logs p None)
   pub told : lines ≡ flat_map (λ p. start_lines t b (get_or logs p None) p) (numbers upto)
 
--- the lane of each of these publishers that is here was opened as its log
+-- the lanes of each of these publishers that is here were opened as its log
 abbrev pub AreOpened : TopologyView → List (Option LogView) → (ℕ → Lane) → (ℕ → Lane) → Type 0
 AreOpened t logs before after =
-    (p : ℕ) (l : LogView) → get_or logs p None ≡ Some l → Opens t.late (before (log_lane p)) (after (log_lane p)) (Ok l)
+    (p : ℕ) (l : LogView) → get_or logs p None ≡ Some l
+    → Opens t.late (log_lane p) (lanes_at before (log_lane p)) (lanes_at after (log_lane p)) (Ok l)
 
 -- no other lane was touched than those of so many publishers that are here, and those have lost nothing
 pub record TouchesLanes (t : TopologyView) (b upto : ℕ) (before after : ℕ → Lane) : Type 0 where
-  pub others : (n : ℕ) → ((p : ℕ) → p < upto → is_host (net_of t) p b ≡ true → n ≢ log_lane p) → after n ≡ before n
+  pub others : (n : ℕ) → ((p : ℕ) → p < upto → is_host (net_of t) p b ≡ true → AwayFrom (log_lane p) n)
+      → after n ≡ before n
   pub any_moment : (p : ℕ) → p < upto → is_host (net_of t) p b ≡ true
-      → LosesNothing t.late (before (log_lane p)) (after (log_lane p))
+      → LosesNothing t.late (lanes_at before (log_lane p)) (lanes_at after (log_lane p))

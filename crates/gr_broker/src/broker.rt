@@ -3,23 +3,23 @@
 ghost use Rattle.std.specs.Prelude.{◌≡◌, ◌≢◌, ◌↔◌, ◌⊎◌, ℕ, ◌<◌, ◌≤◌, true, length, Some, None};
 ghost use Rattle.std.specs.Prelude.{Result, Err, IsSome, IfOk, OnOk, OnErr, IsErrOf};
 ghost use Rattle.gr_frame.specs.Decode.{frame_decoded};
-ghost use Rattle.gr_out.specs.declared.disk.Stop.TheVariants.{Unset};
-ghost use Rattle.gr_out.specs.Lane.{has_stopped};
+ghost use Rattle.gr_out.specs.Faults.{Rose};
 ghost use Rattle.gr_out.specs.Stops.{StaysFaultless};
 ghost use Rattle.gr_tick.specs.declared.TheConstants.{MAX_TICK};
 ghost use Rattle.gr_topo.specs.Topology.{late_of};
+ghost use Rattle.gr_publog.specs.Views.{lanes_at, AwayFrom};
 ghost use Rattle.gr_publog.specs.Calls.{Tally, Leaves};
 ghost use Rattle.gr_model.specs.Net.{is_host};
 ghost use Rattle.gr_model.specs.NetOf.{net_of};
 ghost use Rattle.gr_model.specs.Broker.{Outcome as MachineOutcome};
 ghost use Rattle.gr_broker_relay.specs.Told.{Tells};
-ghost use Rattle.gr_broker.specs.Lanes.{log_lane};
+ghost use Rattle.gr_broker.specs.Lanes.{log_lane, either_stopped, AreUnset};
 ghost use Rattle.gr_broker.specs.Seen.{view_in, log_in, machine_log, is_broken, broken_at, IsHosted};
 ghost use Rattle.gr_broker.specs.Of.{IsBrokerOf, LogsStand};
 ghost use Rattle.gr_broker.specs.Told.{log_answer};
 ghost use Rattle.gr_broker.specs.Hosted.{publish_at, publish_logs_at, after_publish, join_at, join_logs_at, after_join};
-ghost use Rattle.gr_broker.specs.Hosted.{wake_at, mark_logs_at, cut_logs_at, after_mark, after_wake, AppendsAt};
-ghost use Rattle.gr_broker.specs.Hosted.{AppendsTwiceAt, WakeLeaves};
+ghost use Rattle.gr_broker.specs.Hosted.{wake_at, mark_logs_at, cut_at, after_mark, after_wake, AppendsAt, WakesAt};
+ghost use Rattle.gr_broker.specs.Hosted.{WakeLeaves};
 ghost use Rattle.gr_broker.specs.Receipt.{receipt, after_receipt, Answers};
 ghost use Rattle.gr_broker.specs.Keeps.{UsesLane};
 ghost use Rattle.gr_broker.specs.Opened.{StartsOver, OpensLanes, LosesNothing, IsDamagedAt};
@@ -91,11 +91,11 @@ pub struct Started {
 
 impl Broker {
     /// Starts a broker: the logs of the publishers that are here are opened, publisher by publisher in order, publisher
-    /// `p` on lane `2 * p`. What is known is what the logs say; nothing is asked, and each horizon is 0. Where a
-    /// publisher and a subscriber are both here, the horizon moves at once to what is settled, and the subscriber gets
-    /// what its filter matches past the cut. Nothing is sent.
+    /// `p` on lanes `2 * p` and `2 * p + 1`. What is known is what the logs say; nothing is asked, and each horizon is
+    /// 0. Where a publisher and a subscriber are both here, the horizon moves at once to what is settled, and the
+    /// subscriber gets what its filter matches past the cut. Nothing is sent.
     ///
-    /// `Damaged` names the first publisher that is here and whose lane holds no log, and `Disk` comes only where the
+    /// `Damaged` names the first publisher that is here and whose lanes hold no log, and `Disk` comes only where the
     /// disk failed in this call. `Reopen` never comes. After a fault no lane has lost anything.
     pub fn start<D: Disk>(
         alloc: Global,
@@ -115,21 +115,31 @@ impl Broker {
         ensures stands { D.tells → IfOk result (λ s. LogsStand (D.lane_of disk.new) s.broker) }
         // The lanes of publishers that are elsewhere stay as they are
         ensures others { D.tells → (n : ℕ)
-            → ((p : ℕ) → p < length topo.now.publishers → is_host (net_of topo.now) p number ≡ true → n ≢ log_lane p)
+            → ((p : ℕ) → p < length topo.now.publishers → is_host (net_of topo.now) p number ≡ true
+            → AwayFrom (log_lane p) n)
             → D.lane_of disk.new n ≡ D.lane_of disk.old n }
-        // At every moment a crash leaves of a lane what it might have left before, or what reads as before
+        // At every moment a crash leaves of two lanes what it might have left before, or what reads as before
         ensures any_moment { D.tells → (p : ℕ) → p < length topo.now.publishers
             → is_host (net_of topo.now) p number ≡ true
-            → LosesNothing topo.now.late (D.lane_of disk.old (log_lane p)) (D.lane_of disk.new (log_lane p)) }
+            → LosesNothing topo.now.late (lanes_at (D.lane_of disk.old) (log_lane p))
+            (lanes_at (D.lane_of disk.new) (log_lane p)) }
         ensures tally { let f = D.faults disk.old in let s = D.stops disk.old in
             Tally f s (D.faults disk.new) (D.stops disk.new) (log_answer result) }
-        // On a faultless disk only a lane that was stopped makes it fail
+        // The disk fails for a stop of a lane, or because the count of failures rose; on a faultless disk only a lane
+        // that was stopped makes it fail
+        ensures why { D.tells → IsErrOf result BrokerFault.Disk
+            → ((p : ℕ) × (either_stopped (lanes_at (D.lane_of disk.new) (log_lane p)) ≡ true))
+            ⊎ Rose (D.faults disk.old) (D.faults disk.new) }
         ensures by_stop { D.tells → D.faultless disk.old → IsErrOf result BrokerFault.Disk
-            → (p : ℕ) × (has_stopped (D.lane_of disk.new (log_lane p)).stop ≡ true) }
-        // and where no stop was ordered on the lanes of the publishers that are here, nothing does
+            → (p : ℕ) × (either_stopped (lanes_at (D.lane_of disk.new) (log_lane p)) ≡ true) }
+        // Where no stop was ordered on the lanes of the publishers that are here, the count of failures rose; nothing
+        // makes a faultless disk fail then
+        ensures rises { D.tells → ((p : ℕ) → p < length topo.now.publishers
+            → is_host (net_of topo.now) p number ≡ true → AreUnset (lanes_at (D.lane_of disk.old) (log_lane p)))
+            → IsErrOf result BrokerFault.Disk → Rose (D.faults disk.old) (D.faults disk.new) }
         ensures never_fails { D.tells → D.faultless disk.old
             → ((p : ℕ) → p < length topo.now.publishers → is_host (net_of topo.now) p number ≡ true
-            → (D.lane_of disk.old (log_lane p)).stop ≡ Unset)
+            → AreUnset (lanes_at (D.lane_of disk.old) (log_lane p)))
             → result ≢ Err BrokerFault.Disk }
         ensures faultless { let f = D.faults disk.old in
             StaysFaultless (D.faultless disk.old) (D.faultless disk.new) f (D.faults disk.new) }
@@ -173,7 +183,7 @@ impl Broker {
     ///
     /// `Memory` leaves the broker and what the disk holds as they were. `Disk` comes only where the disk failed in this
     /// call; what is kept is as before, nothing was sent, and the log answers `Reopen` from then on to each call that
-    /// would append to it. `Damaged` never comes.
+    /// would write to it. `Damaged` never comes.
     pub fn publish<D: Disk>(
         &mut self,
         topo: &Topology,
@@ -234,8 +244,8 @@ impl Broker {
     }
 
     /// Joins a late subscriber to a publisher that is here, at the moment `now` in milliseconds: the machine's join. Of
-    /// the events past its tick the subscriber has those that its filter passes. Only once the join is synced in the log
-    /// it is held and told, and the silence up to it is sent, with the joins.
+    /// the events past its tick the subscriber has those that its filter passes. Only once the join is synced in the
+    /// log it is held and told, and the silence up to it is sent, with the joins.
     ///
     /// A subscriber that has joined this publisher before is told so, and so is one for which no tick is left; then
     /// nothing has changed. Faults are those of `publish`.
@@ -323,7 +333,7 @@ impl Broker {
     /// children are told what to expect.
     ///
     /// After `Memory` the mark may be logged, and nothing else has changed; nothing was sent. After `Disk` the mark may
-    /// be logged, nothing was sent, and the log answers `Reopen` from then on to each call that would append to it.
+    /// be logged, nothing was sent, and the log answers `Reopen` from then on to each call that would write to it.
     /// `Damaged` never comes.
     pub fn wake<D: Disk>(
         &mut self,
@@ -344,10 +354,10 @@ impl Broker {
             machine_log self.new p ≡ o.log) }
         ensures fits { IsBrokerOf topo.now self.new }
         ensures lane { let mark = mark_logs_at topo.now self.old p now in
-            let cut = cut_logs_at topo.now self.old p now in
-            D.tells → AppendsTwiceAt self.old p mark cut (D.lane_of disk.old) (D.lane_of disk.new) (log_answer result) }
+            let cut = cut_at topo.now self.old p now in let reclaim = topo.now.settings.reclaim in D.tells
+            → WakesAt self.old p mark cut reclaim (D.lane_of disk.old) (D.lane_of disk.new) (log_answer result) }
         ensures reopen { IsErrOf result BrokerFault.Reopen ↔ ((is_broken (log_in self.old p) ≡ true)
-            × (IsSome (mark_logs_at topo.now self.old p now) ⊎ IsSome (cut_logs_at topo.now self.old p now))) }
+            × (IsSome (mark_logs_at topo.now self.old p now) ⊎ IsSome (cut_at topo.now self.old p now))) }
         ensures below { log_in self.old p ≡ None → disk.new ≡ disk.old }
         // A log that the disk has failed is not written to any more
         ensures closed { is_broken (log_in self.old p) ≡ true → disk.new ≡ disk.old }

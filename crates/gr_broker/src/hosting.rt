@@ -5,11 +5,12 @@ ghost use Rattle.std.specs.Prelude.{◌≡◌, ◌≢◌, ◌↔◌, ◌⊎◌, 
 ghost use Rattle.std.specs.Prelude.{None, Err, IsErr, IsSome, IsErrOf, IfOk, OnOk};
 ghost use Rattle.gr_tick.specs.declared.TheConstants.{MAX_TICK};
 ghost use Rattle.gr_curio.specs.Wants.{runs_of};
-ghost use Rattle.gr_publog.specs.State.{standing_of, may_follow};
-ghost use Rattle.gr_publog.specs.Crash.{with_record, failed};
-ghost use Rattle.gr_publog.specs.Calls.{Appends, Leaves};
-ghost use Rattle.gr_pubend.specs.Log.{Log as MachineLog, log_of};
+ghost use Rattle.gr_publog.specs.State.{may_follow};
+ghost use Rattle.gr_publog.specs.Views.{LogView, appended, failed, lanes_at};
+ghost use Rattle.gr_publog.specs.Calls.{Appends, Leaves, appended_if};
+ghost use Rattle.gr_pubend.specs.Log.{Log as MachineLog, said};
 ghost use Rattle.gr_pubend.specs.Answers.{quieted, publish_logs, quiet_logs, IsPlanned, IsPlannedMark};
+ghost use Rattle.gr_pubend.specs.Cuts.{Cuts, cut_view, cut_if};
 ghost use Rattle.gr_topo.specs.Topology.{children_of};
 ghost use Rattle.gr_model.specs.Net.{Net};
 ghost use Rattle.gr_model.specs.NetOf.{net_of};
@@ -19,7 +20,7 @@ ghost use Rattle.gr_broker_relay.specs.Kept.{IsKept};
 ghost use Rattle.gr_broker_relay.specs.Held.{held_view, shown_net, IsSite};
 ghost use Rattle.gr_broker_relay.specs.Told.{Tells, Adds, AddsFrames, IsBlank};
 ghost use Rattle.gr_broker_relay.specs.Cuts.{tick_cut};
-ghost use Rattle.gr_broker.specs.Hosted.{logged, cut_logs, AppendsTwice, WakeLeaves};
+ghost use Rattle.gr_broker.specs.Hosted.{Wakes, WakeLeaves};
 ghost use Rattle.gr_broker.specs.Host.{host_with, tick_marked, mark_lines, cut_lines, expected_frames};
 ghost use Rattle.gr_broker.specs.Keeps.{IsAtHost, KeepsPart, IsReadyOn, UsesLog};
 
@@ -32,7 +33,9 @@ use gr_event::Event;
 use gr_know::K;
 use gr_model::{Report, Reports};
 use gr_out::Disk;
-use gr_pubend::{Published, Quieted, plan, plan_quiet};
+use gr_out::law::may_leave_what_it_reads;
+use gr_pubend::{Cutting, Published, Quieted, cut_log, plan, plan_cut, plan_quiet};
+use gr_publog::law::{lower_is, shut_is, stands_read, two_are};
 use gr_publog::{Log, LogFault, Record};
 use gr_tick::Piece;
 
@@ -50,7 +53,7 @@ pub(crate) fn log_and_learn<D: Disk>(
 ) -> Result<(), LogFault>
     requires at { IsAtHost site.now held.old }
     requires whole { log.old.broken ≡ false }
-    requires follows { may_follow (standing_of log.old.late log.old.records) entry.now ≡ true }
+    requires follows { may_follow log.old.state entry.now ≡ true }
     requires stands { IsReadyOn D.tells (D.lane_of disk.old) log.old }
     ensures adds { let net : Net = shown_net site.now.topo.now held.old in OnOk result ((l : MachineLog) →
         let o : MachineOutcome = learn net site.now.publisher site.now.broker fresh.now (held_view held.old) l in
@@ -59,12 +62,14 @@ pub(crate) fn log_and_learn<D: Disk>(
         let o : MachineOutcome = learn net site.now.publisher site.now.broker fresh.now (held_view held.old) l in
         held_view held.new ≡ o.view) }
     ensures part { KeepsPart site.now held.old held.new result }
-    ensures log { Leaves log.old (with_record entry.now log.old) (failed log.old) log.new result }
-    ensures lane { let l = log.old in let before = D.lane_of disk.old l.lane in
-        D.tells → Appends l (Some entry.now) before (D.lane_of disk.new l.lane) result }
+    ensures log { Leaves log.old (appended entry.now log.old) (failed log.old) log.new result }
+    ensures lane { let l = log.old in let before = lanes_at (D.lane_of disk.old) l.lane in
+        D.tells → Appends l (Some entry.now) before (lanes_at (D.lane_of disk.new) l.lane) result }
     ensures never_reopen { result ≢ Err LogFault.Reopen }
     ensures uses { UsesLog D.tells D.faultless D.lane_of D.faults D.stops disk.old disk.new log.old log.new result }
 {
+    // Proof only: lanes that are not called hold what they held.
+    stands_read();
     let changes = match plan_learning(site, held, fresh, into) {
         Ok(changes) => changes,
         Err(_) => return Err(LogFault::Memory),
@@ -103,27 +108,30 @@ fn log_event<D: Disk>(
     into: &mut Outcome,
 ) -> Result<(), LogFault>
     requires at { IsAtHost site.now held.old }
-    requires planned { IsPlanned log.old.records number event.now (Published.Logged tick fresh.now) }
+    requires planned { IsPlanned log.old.state number event.now (Published.Logged tick fresh.now) }
     requires stands { IsReadyOn D.tells (D.lane_of disk.old) log.old }
     requires blank { IsBlank into.old }
     ensures told { OnOk result (Tells (publish_by
         (shown_net site.now.topo.now held.old) site.now.publisher site.now.broker number event.now
-        (held_view held.old) (log_of log.old.records) (Published.Logged tick fresh.now)) into.new) }
+        (held_view held.old) (said log.old) (Published.Logged tick fresh.now)) into.new) }
     ensures view { OnOk result (let o : MachineOutcome = publish_by
         (shown_net site.now.topo.now held.old) site.now.publisher site.now.broker number event.now
-        (held_view held.old) (log_of log.old.records) (Published.Logged tick fresh.now) in held_view held.new ≡
+        (held_view held.old) (said log.old) (Published.Logged tick fresh.now) in held_view held.new ≡
         o.view) }
     ensures part { KeepsPart site.now held.old held.new result }
-    ensures log { Leaves log.old (with_record (Record.Event tick number event.now) log.old)
+    ensures log { Leaves log.old (appended (Record.Event tick number event.now) log.old)
         (failed log.old) log.new result }
-    ensures lane { let l = log.old in let before = D.lane_of disk.old l.lane in
-        D.tells → Appends l (Some (Record.Event tick number event.now)) before (D.lane_of disk.new l.lane) result }
+    ensures lane { let l = log.old in let before = lanes_at (D.lane_of disk.old) l.lane in
+        let after = lanes_at (D.lane_of disk.new) l.lane in
+        D.tells → Appends l (Some (Record.Event tick number event.now)) before after result }
     ensures reopen { IsErrOf result LogFault.Reopen ↔ (log.old.broken ≡ true) }
     ensures uses { UsesLog D.tells D.faultless D.lane_of D.faults D.stops disk.old disk.new log.old log.new result }
 {
     if log.is_broken() {
         return Err(LogFault::Reopen);
     }
+    // Proof only: lanes that are not called hold what they held.
+    stands_read();
     let publisher = site.publisher;
     match tell(
         Report::Logged {
@@ -181,21 +189,23 @@ pub(crate) fn publish<D: Disk>(
     requires blank { IsBlank into.old }
     ensures told { OnOk result (Tells (publish
         (shown_net site.now.topo.now held.old) site.now.publisher site.now.broker now number event.now
-        (held_view held.old) (log_of log.old.records)) into.new) }
+        (held_view held.old) (said log.old)) into.new) }
     ensures view { OnOk result (let o : MachineOutcome = publish
         (shown_net site.now.topo.now held.old) site.now.publisher site.now.broker now number event.now
-        (held_view held.old) (log_of log.old.records) in held_view held.new ≡ o.view) }
+        (held_view held.old) (said log.old) in held_view held.new ≡ o.view) }
     ensures part { KeepsPart site.now held.old held.new result }
-    ensures log { let r = publish_logs log.old.records number event.now now in
-        Leaves log.old (logged log.old r) (failed log.old) log.new result }
-    ensures lane { let l = log.old in let before = D.lane_of disk.old l.lane in let r =
-        publish_logs l.records number event.now now in
-        D.tells → Appends l r before (D.lane_of disk.new l.lane) result }
+    ensures log { let r = publish_logs (said log.old) number event.now now in
+        Leaves log.old (appended_if r log.old) (failed log.old) log.new result }
+    ensures lane { let l = log.old in let before = lanes_at (D.lane_of disk.old) l.lane in let r =
+        publish_logs (said l) number event.now now in
+        D.tells → Appends l r before (lanes_at (D.lane_of disk.new) l.lane) result }
     ensures reopen { IsErrOf result LogFault.Reopen
-        ↔ ((log.old.broken ≡ true) × IsSome (publish_logs log.old.records number event.now now)) }
-    ensures untouched { publish_logs log.old.records number event.now now ≡ None → disk.new ≡ disk.old }
+        ↔ ((log.old.broken ≡ true) × IsSome (publish_logs (said log.old) number event.now now)) }
+    ensures untouched { publish_logs (said log.old) number event.now now ≡ None → disk.new ≡ disk.old }
     ensures uses { UsesLog D.tells D.faultless D.lane_of D.faults D.stops disk.old disk.new log.old log.new result }
 {
+    // Proof only: lanes that are not called hold what they held.
+    stands_read();
     let answer = match plan(site.alloc, log, number, event, now) {
         Ok(answer) => answer,
         Err(_) => {
@@ -239,26 +249,28 @@ fn mark<D: Disk>(
     requires now { now ≤ MAX_TICK }
     requires stands { IsReadyOn D.tells (D.lane_of disk.old) log.old }
     ensures tick { IfOk result (λ tick. tick
-        ≡ tick_marked (quieted (log_of log.old.records) now site.now.topo.now.settings.quiet)) }
-    ensures wants { IsErr result → IsSome (quiet_logs log.old.records now site.now.topo.now.settings.quiet) }
+        ≡ tick_marked (quieted (said log.old) now site.now.topo.now.settings.quiet)) }
+    ensures wants { IsErr result → IsSome (quiet_logs (said log.old) now site.now.topo.now.settings.quiet) }
     ensures adds { OnOk result (let o : MachineOutcome = marking
         (shown_net site.now.topo.now held.old) site.now.publisher site.now.broker now
-        (held_view held.old) (log_of log.old.records) in Adds o.lines o.frames into.old into.new) }
+        (held_view held.old) (said log.old) in Adds o.lines o.frames into.old into.new) }
     ensures view { OnOk result (let o : MachineOutcome = marking
         (shown_net site.now.topo.now held.old) site.now.publisher site.now.broker now
-        (held_view held.old) (log_of log.old.records) in held_view held.new ≡ o.view) }
+        (held_view held.old) (said log.old) in held_view held.new ≡ o.view) }
     ensures part { KeepsPart site.now held.old held.new result }
-    ensures log { let r = quiet_logs log.old.records now site.now.topo.now.settings.quiet in
-        Leaves log.old (logged log.old r) (failed log.old) log.new result }
-    ensures lane { let l = log.old in let before = D.lane_of disk.old l.lane in
-        let r = quiet_logs l.records now site.now.topo.now.settings.quiet in
-        D.tells → Appends l r before (D.lane_of disk.new l.lane) result }
+    ensures log { let r = quiet_logs (said log.old) now site.now.topo.now.settings.quiet in
+        Leaves log.old (appended_if r log.old) (failed log.old) log.new result }
+    ensures lane { let l = log.old in let before = lanes_at (D.lane_of disk.old) l.lane in
+        let r = quiet_logs (said l) now site.now.topo.now.settings.quiet in
+        D.tells → Appends l r before (lanes_at (D.lane_of disk.new) l.lane) result }
     ensures reopen { IsErrOf result LogFault.Reopen
-        ↔ ((log.old.broken ≡ true) × IsSome (quiet_logs log.old.records now site.now.topo.now.settings.quiet)) }
+        ↔ ((log.old.broken ≡ true) × IsSome (quiet_logs (said log.old) now site.now.topo.now.settings.quiet)) }
     ensures closed { log.old.broken ≡ true → disk.new ≡ disk.old }
-    ensures untouched { quiet_logs log.old.records now site.now.topo.now.settings.quiet ≡ None → disk.new ≡ disk.old }
+    ensures untouched { quiet_logs (said log.old) now site.now.topo.now.settings.quiet ≡ None → disk.new ≡ disk.old }
     ensures uses { UsesLog D.tells D.faultless D.lane_of D.faults D.stops disk.old disk.new log.old log.new result }
 {
+    // Proof only: lanes that are not called hold what they held.
+    stands_read();
     let answer = match plan_quiet(site.alloc, log, now, site.topo.settings().quiet) {
         Ok(answer) => answer,
         Err(_) => {
@@ -289,20 +301,20 @@ fn log_mark<D: Disk>(
     into: &mut Outcome,
 ) -> Result<Option<u64>, LogFault>
     requires at { IsAtHost site.now held.old }
-    requires planned { IsPlannedMark log.old.records (Quieted.Marked tick fresh.now) }
+    requires planned { IsPlannedMark log.old.state (Quieted.Marked tick fresh.now) }
     requires stands { IsReadyOn D.tells (D.lane_of disk.old) log.old }
     ensures tick { IfOk result (λ t. t ≡ Some tick) }
     ensures adds { OnOk result (let o : MachineOutcome = marking_by
         (shown_net site.now.topo.now held.old) site.now.publisher site.now.broker
-        (held_view held.old) (log_of log.old.records) (Quieted.Marked tick fresh.now) in
+        (held_view held.old) (said log.old) (Quieted.Marked tick fresh.now) in
         Adds o.lines o.frames into.old into.new) }
     ensures view { OnOk result (let o : MachineOutcome = marking_by
         (shown_net site.now.topo.now held.old) site.now.publisher site.now.broker
-        (held_view held.old) (log_of log.old.records) (Quieted.Marked tick fresh.now) in held_view held.new ≡ o.view) }
+        (held_view held.old) (said log.old) (Quieted.Marked tick fresh.now) in held_view held.new ≡ o.view) }
     ensures part { KeepsPart site.now held.old held.new result }
-    ensures log { Leaves log.old (with_record (Record.Mark tick) log.old) (failed log.old) log.new result }
-    ensures lane { let l = log.old in let before = D.lane_of disk.old l.lane in
-        D.tells → Appends l (Some (Record.Mark tick)) before (D.lane_of disk.new l.lane) result }
+    ensures log { Leaves log.old (appended (Record.Mark tick) log.old) (failed log.old) log.new result }
+    ensures lane { let l = log.old in let before = lanes_at (D.lane_of disk.old) l.lane in
+        D.tells → Appends l (Some (Record.Mark tick)) before (lanes_at (D.lane_of disk.new) l.lane) result }
     ensures reopen { IsErrOf result LogFault.Reopen ↔ (log.old.broken ≡ true) }
     ensures uses { UsesLog D.tells D.faultless D.lane_of D.faults D.stops disk.old disk.new log.old log.new result }
 {
@@ -315,9 +327,31 @@ fn log_mark<D: Disk>(
     }
 }
 
+/// Puts the lines of a cut at the end of some lines: where the log is cut, and where it is written anew by that.
+fn tell_cut(site: &Site<'_>, log: &Log, tick: u64, into: &mut Reports) -> Result<(), Memory>
+    ensures { OnOk result (into.new ≡ into.old
+        ++ cut_lines site.now.publisher site.now.topo.now.settings.reclaim (Some tick) (said log.now)) }
+{
+    let publisher = site.publisher;
+    into.push(Report::Cut { publisher, tick })?;
+    match plan_cut(log, site.topo.settings().reclaim) {
+        Cutting::Recorded => Ok(()),
+        Cutting::Reclaimed { generation } => into.push(Report::Reclaimed {
+            publisher,
+            generation,
+        }),
+    }
+}
+
 /// The lines of a mark and of a cut, where there is one.
-fn lines_of(site: &Site<'_>, marked: Option<u64>, cut: Option<u64>) -> Result<Reports, Memory>
-    ensures { IfOk result (λ lines. lines ≡ mark_lines site.now.publisher marked ++ cut_lines site.now.publisher cut) }
+fn lines_of(
+    site: &Site<'_>,
+    log: &Log,
+    marked: Option<u64>,
+    cut: Option<u64>,
+) -> Result<Reports, Memory>
+    ensures { IfOk result (λ lines. lines ≡ mark_lines site.now.publisher marked
+        ++ cut_lines site.now.publisher site.now.topo.now.settings.reclaim cut (said log.now)) }
 {
     let publisher = site.publisher;
     let mut lines = Reports::new(site.alloc);
@@ -326,7 +360,7 @@ fn lines_of(site: &Site<'_>, marked: Option<u64>, cut: Option<u64>) -> Result<Re
         None => {}
     }
     match cut {
-        Some(tick) => lines.push(Report::Cut { publisher, tick })?,
+        Some(tick) => tell_cut(site, log, tick, &mut lines)?,
         None => {}
     }
     Ok(lines)
@@ -335,31 +369,33 @@ fn lines_of(site: &Site<'_>, marked: Option<u64>, cut: Option<u64>) -> Result<Re
 /// Puts the lines of a mark and of a cut before those that were told, and tells the children what to expect.
 fn tell_wake(
     site: &Site<'_>,
+    log: &Log,
     wants: &Wants,
-    settled: u64,
     marked: Option<u64>,
     cut: Option<u64>,
     into: &mut Outcome,
 ) -> Result<(), Memory>
     requires site { IsSite site.now }
-    requires upto { settled ≤ MAX_TICK }
-    ensures lines { OnOk result (into.new.reports
-        ≡ mark_lines site.now.publisher marked ++ cut_lines site.now.publisher cut ++ into.old.reports) }
-    ensures frames { OnOk result (AddsFrames (expected_frames site.now.publisher site.now.broker settled
+    ensures lines { OnOk result (into.new.reports ≡ mark_lines site.now.publisher marked
+        ++ cut_lines site.now.publisher site.now.topo.now.settings.reclaim cut (said log.now) ++ into.old.reports) }
+    ensures frames { OnOk result (AddsFrames (expected_frames site.now.publisher site.now.broker log.now.state.settled
         (children_of site.now.topo.now site.now.publisher site.now.broker)
         (runs_of wants.now)) into.old.frames into.new.frames) }
 {
-    let mut lines = lines_of(site, marked, cut)?;
+    // Proof only: what the log holds is in order.
+    let _ = log.is_broken();
+    let mut lines = lines_of(site, log, marked, cut)?;
     lines.append(&mut into.reports)?;
     into.reports = lines;
+    let settled = log.settled();
     if settled == 0 {
         return Ok(());
     }
     expect_children(site, wants, settled, &mut into.frames)
 }
 
-/// Cuts the log, and tells that before what was told, with the mark; the children are told what to expect. It takes
-/// all its memory before the disk is called.
+/// Cuts the log, by a record or by writing it anew, and tells that before what was told, with the mark; the children
+/// are told what to expect. It takes all its memory but that of the log before the disk is called.
 fn cut_upto<D: Disk>(
     site: &Site<'_>,
     disk: &mut D,
@@ -371,31 +407,39 @@ fn cut_upto<D: Disk>(
 ) -> Result<(), LogFault>
     requires site { IsSite site.now }
     requires due { tick_cut (net_of site.now.topo.now) site.now.publisher site.now.broker (held_view held.now)
-        (log_of log.old.records) ≡ Some tick }
-    requires follows { may_follow (standing_of log.old.late log.old.records) (Record.Cut tick) ≡ true }
+        (said log.old) ≡ Some tick }
+    requires past { log.old.state.cut < tick }
+    requires upto { tick ≤ log.old.state.settled }
     requires stands { IsReadyOn D.tells (D.lane_of disk.old) log.old }
-    ensures lines { OnOk result (into.new.reports
-        ≡ mark_lines site.now.publisher marked ++ cut_lines site.now.publisher
-        (tick_cut (net_of site.now.topo.now) site.now.publisher site.now.broker (held_view held.now)
-        (log_of log.old.records)) ++ into.old.reports) }
-    ensures frames { let settled = (log_of log.old.records).settled in
-        OnOk result (AddsFrames (expected_frames site.now.publisher site.now.broker settled
+    ensures lines { let due = tick_cut (net_of site.now.topo.now) site.now.publisher site.now.broker
+        (held_view held.now) (said log.old) in
+        OnOk result (into.new.reports ≡ mark_lines site.now.publisher marked
+        ++ cut_lines site.now.publisher site.now.topo.now.settings.reclaim due (said log.old) ++ into.old.reports) }
+    ensures frames { OnOk result (AddsFrames (expected_frames site.now.publisher site.now.broker
+        log.old.state.settled
         (children_of site.now.topo.now site.now.publisher site.now.broker) (runs_of held.now.wants))
         into.old.frames into.new.frames) }
-    ensures log { Leaves log.old (with_record (Record.Cut tick) log.old) (failed log.old) log.new result }
-    ensures lane { let l = log.old in let before = D.lane_of disk.old l.lane in
-        D.tells → Appends l (Some (Record.Cut tick)) before (D.lane_of disk.new l.lane) result }
+    ensures log { let reclaim = site.now.topo.now.settings.reclaim in
+        Leaves log.old (cut_view reclaim tick log.old) (failed log.old) log.new result }
+    ensures lane { let l = log.old in let before = lanes_at (D.lane_of disk.old) l.lane in
+        let reclaim = site.now.topo.now.settings.reclaim in
+        D.tells → Cuts l (Some tick) reclaim before (lanes_at (D.lane_of disk.new) l.lane) result }
     ensures reopen { IsErrOf result LogFault.Reopen ↔ (log.old.broken ≡ true) }
     ensures uses { UsesLog D.tells D.faultless D.lane_of D.faults D.stops disk.old disk.new log.old log.new result }
 {
     if log.is_broken() {
         return Err(LogFault::Reopen);
     }
-    match tell_wake(site, &held.wants, log.settled(), marked, Some(tick), into) {
+    // Proof only: lanes that are not called hold what they held.
+    stands_read();
+    match tell_wake(site, log, &held.wants, marked, Some(tick), into) {
         Ok(()) => {}
         Err(_) => return Err(LogFault::Memory),
     }
-    log.append(disk, &Record::Cut { tick })
+    match cut_log(log, disk, tick, site.topo.settings().reclaim) {
+        Ok(_) => Ok(()),
+        Err(fault) => Err(fault),
+    }
 }
 
 /// The second half of a host's wake, after the mark: cuts the log if more is consolidated than was cut, and reports
@@ -411,32 +455,31 @@ fn cut<D: Disk>(
     requires site { IsSite site.now }
     requires kept { IsKept (net_of site.now.topo.now) site.now.publisher site.now.broker (held_view held.now) }
     requires stands { IsReadyOn D.tells (D.lane_of disk.old) log.old }
-    ensures lines { OnOk result (into.new.reports
-        ≡ mark_lines site.now.publisher marked ++ cut_lines site.now.publisher
-        (tick_cut (net_of site.now.topo.now) site.now.publisher site.now.broker (held_view held.now)
-        (log_of log.old.records)) ++ into.old.reports) }
-    ensures frames { let settled = (log_of log.old.records).settled in
-        OnOk result (AddsFrames (expected_frames site.now.publisher site.now.broker settled
+    ensures lines { let due = tick_cut (net_of site.now.topo.now) site.now.publisher site.now.broker
+        (held_view held.now) (said log.old) in
+        OnOk result (into.new.reports ≡ mark_lines site.now.publisher marked
+        ++ cut_lines site.now.publisher site.now.topo.now.settings.reclaim due (said log.old) ++ into.old.reports) }
+    ensures frames { OnOk result (AddsFrames (expected_frames site.now.publisher site.now.broker
+        log.old.state.settled
         (children_of site.now.topo.now site.now.publisher site.now.broker) (runs_of held.now.wants))
         into.old.frames into.new.frames) }
-    ensures log { let r = cut_logs (net_of site.now.topo.now) site.now.publisher site.now.broker (held_view held.now)
-        (log_of log.old.records) in
-        Leaves log.old (logged log.old r) (failed log.old) log.new result }
-    ensures lane { let l = log.old in let before = D.lane_of disk.old l.lane in
-        let r = cut_logs (net_of site.now.topo.now) site.now.publisher site.now.broker (held_view held.now)
-        (log_of log.old.records) in
-        D.tells → Appends l r before (D.lane_of disk.new l.lane) result }
+    ensures log { let due = tick_cut (net_of site.now.topo.now) site.now.publisher site.now.broker
+        (held_view held.now) (said log.old) in
+        Leaves log.old (cut_if due site.now.topo.now.settings.reclaim log.old) (failed log.old) log.new result }
+    ensures lane { let l = log.old in let before = lanes_at (D.lane_of disk.old) l.lane in
+        let reclaim = site.now.topo.now.settings.reclaim in
+        let due = tick_cut (net_of site.now.topo.now) site.now.publisher site.now.broker
+        (held_view held.now) (said l) in
+        D.tells → Cuts l due reclaim before (lanes_at (D.lane_of disk.new) l.lane) result }
     ensures reopen { IsErrOf result LogFault.Reopen ↔ ((log.old.broken ≡ true)
-        × IsSome (cut_logs (net_of site.now.topo.now) site.now.publisher site.now.broker (held_view held.now)
-        (log_of log.old.records))) }
+        × IsSome (tick_cut (net_of site.now.topo.now) site.now.publisher site.now.broker (held_view held.now)
+        (said log.old))) }
     ensures closed { log.old.broken ≡ true → disk.new ≡ disk.old }
     ensures uses { UsesLog D.tells D.faultless D.lane_of D.faults D.stops disk.old disk.new log.old log.new result }
 {
-    // Proof only: the records follow one another.
-    let _ = log.is_broken();
     match cut_due(site, held, log) {
         Some(tick) => cut_upto(site, disk, log, held, marked, tick, into),
-        None => match tell_wake(site, &held.wants, log.settled(), marked, None, into) {
+        None => match tell_wake(site, log, &held.wants, marked, None, into) {
             Ok(()) => Ok(()),
             Err(_) => Err(LogFault::Memory),
         },
@@ -447,7 +490,7 @@ fn cut<D: Disk>(
 /// long, then cut where more is consolidated than was cut, and the children are told what to expect.
 ///
 /// After `Memory` the mark may be logged, and nothing else has changed. After `Disk` the mark may be logged, and the
-/// log is broken. `Reopen` comes where a broken log would be appended to, and then all is as before.
+/// log is broken. `Reopen` comes where a broken log would be written to, and then all is as before.
 pub(crate) fn wake_host<D: Disk>(
     site: &Site<'_>,
     disk: &mut D,
@@ -460,13 +503,13 @@ pub(crate) fn wake_host<D: Disk>(
     requires stands { IsReadyOn D.tells (D.lane_of disk.old) log.old }
     ensures told { IfOk result (λ told.
         Tells (wake_host (shown_net site.now.topo.now held.old) site.now.publisher site.now.broker now
-        (held_view held.old) (log_of log.old.records)) told) }
+        (held_view held.old) (said log.old)) told) }
     ensures leaves { let net : Net = shown_net site.now.topo.now held.old in
         let m : MachineOutcome = marking net site.now.publisher site.now.broker now (held_view held.old)
-        (log_of log.old.records) in
-        let marked = logged log.old (quiet_logs log.old.records now site.now.topo.now.settings.quiet) in
-        let cut = cut_logs (net_of site.now.topo.now) site.now.publisher site.now.broker m.view m.log in
-        let woken = logged marked cut in
+        (said log.old) in
+        let marked : LogView = appended_if (quiet_logs (said log.old) now site.now.topo.now.settings.quiet) log.old in
+        let cut = tick_cut (net_of site.now.topo.now) site.now.publisher site.now.broker m.view m.log in
+        let woken : LogView = cut_if cut site.now.topo.now.settings.reclaim marked in
         WakeLeaves (host_with (held_view held.old) log.old) (host_with m.view marked) (host_with m.view woken)
         (host_with (held_view held.old) (failed log.old)) (host_with m.view (failed marked))
         (host_with (held_view held.new) log.new) result }
@@ -474,22 +517,27 @@ pub(crate) fn wake_host<D: Disk>(
     ensures elsewhere { held.new.log ≡ held.old.log }
     ensures lane { let net : Net = shown_net site.now.topo.now held.old in
         let m : MachineOutcome = marking net site.now.publisher site.now.broker now (held_view held.old)
-        (log_of log.old.records) in
-        let marked = quiet_logs log.old.records now site.now.topo.now.settings.quiet in
-        let cut = cut_logs (net_of site.now.topo.now) site.now.publisher site.now.broker m.view m.log in
-        let l = log.old in let before = D.lane_of disk.old l.lane in
-        D.tells → AppendsTwice l marked cut before (D.lane_of disk.new l.lane) result }
+        (said log.old) in
+        let mark = quiet_logs (said log.old) now site.now.topo.now.settings.quiet in
+        let cut = tick_cut (net_of site.now.topo.now) site.now.publisher site.now.broker m.view m.log in
+        let l = log.old in let before = lanes_at (D.lane_of disk.old) l.lane in
+        let reclaim = site.now.topo.now.settings.reclaim in
+        D.tells → Wakes l mark cut reclaim before (lanes_at (D.lane_of disk.new) l.lane) result }
     ensures reopen { let net : Net = shown_net site.now.topo.now held.old in
         let m : MachineOutcome = marking net site.now.publisher site.now.broker now (held_view held.old)
-        (log_of log.old.records) in
-        let marked = quiet_logs log.old.records now site.now.topo.now.settings.quiet in
-        let cut = cut_logs (net_of site.now.topo.now) site.now.publisher site.now.broker m.view m.log in
-        IsErrOf result LogFault.Reopen ↔ ((log.old.broken ≡ true) × (IsSome marked ⊎ IsSome cut)) }
+        (said log.old) in
+        let mark = quiet_logs (said log.old) now site.now.topo.now.settings.quiet in
+        let cut = tick_cut (net_of site.now.topo.now) site.now.publisher site.now.broker m.view m.log in
+        IsErrOf result LogFault.Reopen ↔ ((log.old.broken ≡ true) × (IsSome mark ⊎ IsSome cut)) }
     ensures closed { log.old.broken ≡ true → disk.new ≡ disk.old }
     ensures uses { UsesLog D.tells D.faultless D.lane_of D.faults D.stops disk.old disk.new log.old log.new result }
 {
-    // Proof only: a time of silence is at least 1.
+    // Proof only: a time of silence is at least 1, and what images of two lanes hold.
     let _ = site.topo.settings();
+    may_leave_what_it_reads();
+    shut_is();
+    two_are();
+    lower_is();
     let mut told = Outcome::new(site.alloc);
     let marked = match mark(site, disk, log, held, now, &mut told) {
         Ok(marked) => marked,

@@ -3,9 +3,9 @@
 ghost use Rattle.std.specs.Prelude.{◌≡◌, ◌↔◌, ℕ, ◌<◌, ◌≤◌, true, length, map, get_or, Some, None, IsSome};
 ghost use Rattle.std.specs.Prelude.{is_some, OnOk, OnErr, IsErrOf};
 ghost use Rattle.gr_tick.specs.declared.TheConstants.{MAX_TICK};
-ghost use Rattle.gr_publog.specs.Crash.{LogView, with_record, failed};
-ghost use Rattle.gr_publog.specs.Calls.{IsReady, Appends, Leaves};
-ghost use Rattle.gr_pubend.specs.Log.{log_of};
+ghost use Rattle.gr_publog.specs.Views.{LogView, appended, failed, lanes_at, IsReady};
+ghost use Rattle.gr_publog.specs.Calls.{Appends, Leaves, appended_if};
+ghost use Rattle.gr_pubend.specs.Log.{said};
 ghost use Rattle.gr_pubend.specs.Answers.{joined_at, join_of, join_logs, IsPlannedJoin};
 ghost use Rattle.gr_topo.specs.Topology.{late_of};
 ghost use Rattle.gr_model.specs.Net.{is_host};
@@ -19,7 +19,7 @@ ghost use Rattle.gr_broker.specs.Lanes.{log_lane};
 ghost use Rattle.gr_broker.specs.Seen.{log_in, log_said, with_logged, with_failed, is_broken, broken_at};
 ghost use Rattle.gr_broker.specs.Seen.{logs_of, broker_at};
 ghost use Rattle.gr_broker.specs.Of.{HoldJoins};
-ghost use Rattle.gr_broker.specs.Hosted.{join_with, join_by, join_at, join_logs_at, after_join, logged, AppendsAt};
+ghost use Rattle.gr_broker.specs.Hosted.{join_with, join_by, join_at, join_logs_at, after_join, AppendsAt};
 ghost use Rattle.gr_broker.specs.Keeps.{IsAtHost, KeepsPart, IsReadyOn, UsesLane, UsesLog};
 
 use crate::hosting::{log_and_learn, tell};
@@ -29,6 +29,7 @@ use gr_know::K;
 use gr_model::Report;
 use gr_out::Disk;
 use gr_pubend::{Joined, plan_join};
+use gr_publog::law::stands_read;
 use gr_publog::{Log, LogFault, Record};
 use gr_tick::Piece;
 use std::mem;
@@ -47,24 +48,26 @@ fn log_join<D: Disk>(
     into: &mut Outcome,
 ) -> Result<(), LogFault>
     requires at { IsAtHost site.now held.old }
-    requires late { log.old.late ≡ site.now.topo.now.late }
-    requires planned { IsPlannedJoin log.old.late log.old.records s (Joined.Logged tick fresh.now) }
+    requires late { log.old.state.late ≡ site.now.topo.now.late }
+    requires planned { IsPlannedJoin log.old.state s (Joined.Logged tick fresh.now) }
     requires stands { IsReadyOn D.tells (D.lane_of disk.old) log.old }
     requires blank { IsBlank into.old }
     ensures told { OnOk result (Tells (join_by (net_of site.now.topo.now) site.now.publisher site.now.broker s
-        (held_view held.old) (log_of log.old.records) tick fresh.now) into.new) }
+        (held_view held.old) (said log.old) tick fresh.now) into.new) }
     ensures view { OnOk result (let o : MachineOutcome = join_by (net_of site.now.topo.now) site.now.publisher
-        site.now.broker s (held_view held.old) (log_of log.old.records) tick fresh.now in held_view held.new ≡ o.view) }
+        site.now.broker s (held_view held.old) (said log.old) tick fresh.now in held_view held.new ≡ o.view) }
     ensures part { KeepsPart site.now held.old held.new result }
-    ensures log { Leaves log.old (with_record (Record.Join tick s) log.old) (failed log.old) log.new result }
-    ensures lane { let l = log.old in let before = D.lane_of disk.old l.lane in
-        D.tells → Appends l (Some (Record.Join tick s)) before (D.lane_of disk.new l.lane) result }
+    ensures log { Leaves log.old (appended (Record.Join tick s) log.old) (failed log.old) log.new result }
+    ensures lane { let l = log.old in let before = lanes_at (D.lane_of disk.old) l.lane in
+        D.tells → Appends l (Some (Record.Join tick s)) before (lanes_at (D.lane_of disk.new) l.lane) result }
     ensures reopen { IsErrOf result LogFault.Reopen ↔ (log.old.broken ≡ true) }
     ensures uses { UsesLog D.tells D.faultless D.lane_of D.faults D.stops disk.old disk.new log.old log.new result }
 {
     if log.is_broken() {
         return Err(LogFault::Reopen);
     }
+    // Proof only: lanes that are not called hold what they held.
+    stands_read();
     let line = Report::Joined {
         subscriber: s,
         publisher: site.publisher,
@@ -74,8 +77,6 @@ fn log_join<D: Disk>(
         Ok(()) => {}
         Err(_) => return Err(LogFault::Memory),
     }
-    // Proof only: there are no more late subscribers than a list has room for.
-    let _ = site.topo.brokers();
     let more = match log.joins().with(Join {
         subscriber: s,
         tick,
@@ -114,24 +115,27 @@ fn join<D: Disk>(
 ) -> Result<(), LogFault>
     requires at { IsAtHost site.now held.old }
     requires joins { late_of site.now.topo.now s ≡ true }
-    requires late { log.old.late ≡ site.now.topo.now.late }
+    requires late { log.old.state.late ≡ site.now.topo.now.late }
     requires now { now ≤ MAX_TICK }
     requires stands { IsReadyOn D.tells (D.lane_of disk.old) log.old }
     requires blank { IsBlank into.old }
     ensures told { OnOk result (Tells (join_with (net_of site.now.topo.now) site.now.publisher site.now.broker now s
-        (held_view held.old) (log_of log.old.records)) into.new) }
+        (held_view held.old) (said log.old)) into.new) }
     ensures view { OnOk result (let o : MachineOutcome = join_with (net_of site.now.topo.now) site.now.publisher
-        site.now.broker now s (held_view held.old) (log_of log.old.records) in held_view held.new ≡ o.view) }
+        site.now.broker now s (held_view held.old) (said log.old) in held_view held.new ≡ o.view) }
     ensures part { KeepsPart site.now held.old held.new result }
-    ensures log { let r = join_logs log.old.records s now in
-        Leaves log.old (logged log.old r) (failed log.old) log.new result }
-    ensures lane { let l = log.old in let before = D.lane_of disk.old l.lane in let r = join_logs l.records s now in
-        D.tells → Appends l r before (D.lane_of disk.new l.lane) result }
+    ensures log { let r = join_logs (said log.old) s now in
+        Leaves log.old (appended_if r log.old) (failed log.old) log.new result }
+    ensures lane { let l = log.old in let before = lanes_at (D.lane_of disk.old) l.lane in
+        let r = join_logs (said l) s now in
+        D.tells → Appends l r before (lanes_at (D.lane_of disk.new) l.lane) result }
     ensures reopen { IsErrOf result LogFault.Reopen
-        ↔ ((log.old.broken ≡ true) × IsSome (join_logs log.old.records s now)) }
-    ensures untouched { join_logs log.old.records s now ≡ None → disk.new ≡ disk.old }
+        ↔ ((log.old.broken ≡ true) × IsSome (join_logs (said log.old) s now)) }
+    ensures untouched { join_logs (said log.old) s now ≡ None → disk.new ≡ disk.old }
     ensures uses { UsesLog D.tells D.faultless D.lane_of D.faults D.stops disk.old disk.new log.old log.new result }
 {
+    // Proof only: lanes that are not called hold what they held.
+    stands_read();
     let answer = match plan_join(site.alloc, log, s, now) {
         Ok(answer) => answer,
         Err(_) => {
@@ -177,11 +181,12 @@ fn join_part<D: Disk>(
 ) -> Result<(), LogFault>
     requires at { IsAtHost site.now part.old }
     requires joins { late_of site.now.topo.now s ≡ true }
-    requires late { (l : LogView) → part.old.log ≡ Some l → l.late ≡ site.now.topo.now.late }
+    requires late { (l : LogView) → part.old.log ≡ Some l → l.state.late ≡ site.now.topo.now.late }
     requires now { now ≤ MAX_TICK }
     requires here { IsSome part.old.log }
     requires blank { IsBlank into.old }
-    requires stands { D.tells → (l : LogView) → part.old.log ≡ Some l → IsReady l (D.lane_of disk.old l.lane) }
+    requires stands { D.tells → (l : LogView) → part.old.log ≡ Some l
+        → IsReady l (lanes_at (D.lane_of disk.old) l.lane) }
     ensures told { OnOk result (Tells (join_with (net_of site.now.topo.now) site.now.publisher site.now.broker now s
         (held_view part.old) (log_said part.old.log)) into.new) }
     ensures view { OnOk result (let o : MachineOutcome = join_with (net_of site.now.topo.now) site.now.publisher
@@ -192,11 +197,12 @@ fn join_part<D: Disk>(
         Leaves part.old.log (with_logged part.old.log r) (with_failed part.old.log) part.new.log result }
     ensures lane { let r = join_of (joined_at (log_said part.old.log) s now) s in
         D.tells → (l : LogView) → part.old.log ≡ Some l
-        → Appends l r (D.lane_of disk.old l.lane) (D.lane_of disk.new l.lane) result }
+        → Appends l r (lanes_at (D.lane_of disk.old) l.lane) (lanes_at (D.lane_of disk.new) l.lane) result }
     ensures reopen { let r = join_of (joined_at (log_said part.old.log) s now) s in
         IsErrOf result LogFault.Reopen ↔ ((is_broken part.old.log ≡ true) × IsSome r) }
     ensures untouched { let r = join_of (joined_at (log_said part.old.log) s now) s in r ≡ None → disk.new ≡ disk.old }
-    ensures stands { D.tells → (l : LogView) → part.new.log ≡ Some l → IsReady l (D.lane_of disk.new l.lane) }
+    ensures stands { D.tells → (l : LogView) → part.new.log ≡ Some l
+        → IsReady l (lanes_at (D.lane_of disk.new) l.lane) }
     ensures uses { (l : LogView) → part.old.log ≡ Some l
         → UsesLane D.tells D.faultless D.lane_of D.faults D.stops l.lane disk.old disk.new result }
 {
@@ -229,12 +235,12 @@ pub(crate) fn join_in<D: Disk>(
     requires here { IsSome (get_or (logs_of held.old.items) p None) }
     requires lanes { (q : ℕ) (l : LogView) → get_or (logs_of held.old.items) q None ≡ Some l → l.lane ≡ log_lane q }
     requires late { (q : ℕ) (l : LogView) → get_or (logs_of held.old.items) q None ≡ Some l
-        → l.late ≡ seat.now.topo.now.late }
+        → l.state.late ≡ seat.now.topo.now.late }
     requires joined { HoldJoins (map held_view held.old.items) (logs_of held.old.items) }
     requires now { now ≤ MAX_TICK }
     requires blank { IsBlank into.old }
     requires stands { D.tells → (q : ℕ) (l : LogView) → get_or (logs_of held.old.items) q None ≡ Some l
-        → IsReady l (D.lane_of disk.old (log_lane q)) }
+        → IsReady l (lanes_at (D.lane_of disk.old) (log_lane q)) }
     ensures told { let b = broker_at seat.now held.old.items in
         OnOk result (Tells (join_at seat.now.topo.now b p s now) into.new) }
     ensures leaves { let b = broker_at seat.now held.old.items in
@@ -249,7 +255,7 @@ pub(crate) fn join_in<D: Disk>(
         ≡ is_some (get_or (logs_of held.old.items) q None) }
     ensures lanes { (q : ℕ) (l : LogView) → get_or (logs_of held.new.items) q None ≡ Some l → l.lane ≡ log_lane q }
     ensures late { (q : ℕ) (l : LogView) → get_or (logs_of held.new.items) q None ≡ Some l
-        → l.late ≡ seat.now.topo.now.late }
+        → l.state.late ≡ seat.now.topo.now.late }
     ensures joined { HoldJoins (map held_view held.new.items) (logs_of held.new.items) }
     ensures many { length held.new.items ≡ length held.old.items }
     ensures lane { let b = broker_at seat.now held.old.items in D.tells
@@ -260,7 +266,7 @@ pub(crate) fn join_in<D: Disk>(
         join_logs_at b p s now ≡ None → disk.new ≡ disk.old }
     ensures uses { UsesLane D.tells D.faultless D.lane_of D.faults D.stops (log_lane p) disk.old disk.new result }
     ensures stands { D.tells → (q : ℕ) (l : LogView) → get_or (logs_of held.new.items) q None ≡ Some l
-        → IsReady l (D.lane_of disk.new (log_lane q)) }
+        → IsReady l (lanes_at (D.lane_of disk.new) (log_lane q)) }
 {
     let site = site_at(seat, p);
     join_part(&site, disk, &mut held[p as usize], s, now, into)

@@ -16,16 +16,16 @@
 //! | `starting` | Starts: opens the logs of the publishers that are here. | `started`; `Opened`, `Starting` |
 //! | `publishing` | For a publish, takes out a publisher's part and its log; puts the log back. | `Hosted` |
 //! | `hosting` | At the host: logs an event and then learns it, marks silence, cuts. | `publish`, `wake_host`; `Host` |
-//! | `joining` | For a join, the same: logs it, holds it, and then learns the silence up to it. | `Hosted` |
+//! | `joining` | For a join, takes them out too; logs it, holds it, then learns the silence up to it. | `Hosted` |
 //! | `waking` | For a wake, takes out a part; wakes the host, or a broker below it. | `Hosted`, `Parts` |
 //! | `receiving` | Takes a datagram: it is decoded, it must fit, not split, and not clash. | `Receipt` |
-//! | `lane` | Which lane of a disk has a publisher's log. | `Lanes` |
+//! | `lane` | Which lanes of a disk have a publisher's log. | `Lanes` |
 //! | `outcome` | Why a call is refused or a datagram dropped; lists to be used again. | none |
 //! | `law` | Laws of the machine's calls. | `learn`, `receive`, `clashes` |
 //!
-//! What these calls do tick by tick is said by the rules `Publishes`, `TakesJoin`, `HostWakes`, `Wakes`, and `Comes` for
-//! a frame, in `gr_model_calls/specs/Rules.antt`. Each is at the net that the held joins show: a late subscriber wants
-//! what is past its join. What is learned, asked and answered for one publisher is in `gr_broker_relay`.
+//! What these calls do tick by tick is said by the rules `Publishes`, `TakesJoin`, `HostWakes`, `Wakes`, and `Comes`
+//! for a frame, in `gr_model_calls/specs/Rules.antt`. Each is at the net that the held joins show: a late subscriber
+//! wants what is past its join. What is learned, asked and answered for one publisher is in `gr_broker_relay`.
 
 mod broker;
 mod hosting;
@@ -40,5 +40,6 @@ mod waking;
 
 pub use broker::{Broker, Started};
 pub use gr_broker_relay::{Memory, Outcome};
+pub use lane::log_lane;
 pub use law::{clashes_have_a_least_tick, frames_pass_the_log, nothing_new_sends_nothing};
 pub use outcome::{BrokerFault, Dropped, Received};

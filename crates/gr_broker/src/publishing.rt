@@ -3,8 +3,8 @@
 ghost use Rattle.std.specs.Prelude.{◌≡◌, ◌↔◌, ℕ, ◌<◌, ◌≤◌, true, length, map, get_or, Some, None, IsSome};
 ghost use Rattle.std.specs.Prelude.{is_some, OnOk, OnErr, IsErrOf};
 ghost use Rattle.gr_tick.specs.declared.TheConstants.{MAX_TICK};
-ghost use Rattle.gr_publog.specs.Crash.{LogView};
-ghost use Rattle.gr_publog.specs.Calls.{IsReady, Appends, Leaves};
+ghost use Rattle.gr_publog.specs.Views.{LogView, lanes_at, IsReady};
+ghost use Rattle.gr_publog.specs.Calls.{Appends, Leaves};
 ghost use Rattle.gr_pubend.specs.Answers.{published, event_of};
 ghost use Rattle.gr_model.specs.Net.{is_host};
 ghost use Rattle.gr_model.specs.NetOf.{net_of};
@@ -41,7 +41,8 @@ fn publish_part<D: Disk>(
     requires now { now ≤ MAX_TICK }
     requires here { IsSome part.old.log }
     requires blank { IsBlank into.old }
-    requires stands { D.tells → (l : LogView) → part.old.log ≡ Some l → IsReady l (D.lane_of disk.old l.lane) }
+    requires stands { D.tells → (l : LogView) → part.old.log ≡ Some l
+        → IsReady l (lanes_at (D.lane_of disk.old) l.lane) }
     ensures told { OnOk result (Tells (publish (shown_net site.now.topo.now part.old) site.now.publisher
         site.now.broker now number event.now (held_view part.old) (log_said part.old.log)) into.new) }
     ensures view { OnOk result (let o : MachineOutcome = publish (shown_net site.now.topo.now part.old)
@@ -53,12 +54,13 @@ fn publish_part<D: Disk>(
         Leaves part.old.log (with_logged part.old.log r) (with_failed part.old.log) part.new.log result }
     ensures lane { let r = event_of (published (log_said part.old.log) number event.now now) number event.now in
         D.tells → (l : LogView) → part.old.log ≡ Some l
-        → Appends l r (D.lane_of disk.old l.lane) (D.lane_of disk.new l.lane) result }
+        → Appends l r (lanes_at (D.lane_of disk.old) l.lane) (lanes_at (D.lane_of disk.new) l.lane) result }
     ensures reopen { let r = event_of (published (log_said part.old.log) number event.now now) number event.now in
         IsErrOf result LogFault.Reopen ↔ ((is_broken part.old.log ≡ true) × IsSome r) }
     ensures untouched { let r = event_of (published (log_said part.old.log) number event.now now) number event.now in
         r ≡ None → disk.new ≡ disk.old }
-    ensures stands { D.tells → (l : LogView) → part.new.log ≡ Some l → IsReady l (D.lane_of disk.new l.lane) }
+    ensures stands { D.tells → (l : LogView) → part.new.log ≡ Some l
+        → IsReady l (lanes_at (D.lane_of disk.new) l.lane) }
     ensures uses { (l : LogView) → part.old.log ≡ Some l
         → UsesLane D.tells D.faultless D.lane_of D.faults D.stops l.lane disk.old disk.new result }
 {
@@ -91,12 +93,12 @@ pub(crate) fn publish_in<D: Disk>(
     requires here { IsSome (get_or (logs_of held.old.items) p None) }
     requires lanes { (q : ℕ) (l : LogView) → get_or (logs_of held.old.items) q None ≡ Some l → l.lane ≡ log_lane q }
     requires late { (q : ℕ) (l : LogView) → get_or (logs_of held.old.items) q None ≡ Some l
-        → l.late ≡ seat.now.topo.now.late }
+        → l.state.late ≡ seat.now.topo.now.late }
     requires joined { HoldJoins (map held_view held.old.items) (logs_of held.old.items) }
     requires now { now ≤ MAX_TICK }
     requires blank { IsBlank into.old }
     requires stands { D.tells → (q : ℕ) (l : LogView) → get_or (logs_of held.old.items) q None ≡ Some l
-        → IsReady l (D.lane_of disk.old (log_lane q)) }
+        → IsReady l (lanes_at (D.lane_of disk.old) (log_lane q)) }
     ensures told { let b = broker_at seat.now held.old.items in
         OnOk result (Tells (publish_at seat.now.topo.now b p now number event.now) into.new) }
     ensures leaves { let b = broker_at seat.now held.old.items in
@@ -111,7 +113,7 @@ pub(crate) fn publish_in<D: Disk>(
         ≡ is_some (get_or (logs_of held.old.items) q None) }
     ensures lanes { (q : ℕ) (l : LogView) → get_or (logs_of held.new.items) q None ≡ Some l → l.lane ≡ log_lane q }
     ensures late { (q : ℕ) (l : LogView) → get_or (logs_of held.new.items) q None ≡ Some l
-        → l.late ≡ seat.now.topo.now.late }
+        → l.state.late ≡ seat.now.topo.now.late }
     ensures joined { HoldJoins (map held_view held.new.items) (logs_of held.new.items) }
     ensures many { length held.new.items ≡ length held.old.items }
     ensures lane { let b = broker_at seat.now held.old.items in D.tells
@@ -122,7 +124,7 @@ pub(crate) fn publish_in<D: Disk>(
         publish_logs_at b p now number event.now ≡ None → disk.new ≡ disk.old }
     ensures uses { UsesLane D.tells D.faultless D.lane_of D.faults D.stops (log_lane p) disk.old disk.new result }
     ensures stands { D.tells → (q : ℕ) (l : LogView) → get_or (logs_of held.new.items) q None ≡ Some l
-        → IsReady l (D.lane_of disk.new (log_lane q)) }
+        → IsReady l (lanes_at (D.lane_of disk.new) (log_lane q)) }
 {
     let site = site_at(seat, p);
     publish_part(&site, disk, &mut held[p as usize], number, event, now, into)

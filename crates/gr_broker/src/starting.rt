@@ -1,24 +1,23 @@
 //! A broker starts, publisher by publisher.
 
-ghost use Rattle.std.specs.Prelude.{◌≡◌, ◌≢◌, ℕ, ◌*◌, ◌<◌, ◌++◌, [], true, false, length, map, Some, None, Err, OnOk};
-ghost use Rattle.std.specs.Prelude.{IfOk, IsErrOf};
+ghost use Rattle.std.specs.Prelude.{◌≡◌, ◌≢◌, ◌⊎◌, ℕ, ◌<◌, ◌++◌, [], true, false, length, map, Some, None, Err};
+ghost use Rattle.std.specs.Prelude.{OnOk, IfOk, IsErrOf};
 ghost use Rattle.std.specs.List.{AllByRecursion};
-ghost use Rattle.gr_out.specs.declared.disk.Stop.TheVariants.{Unset};
-ghost use Rattle.gr_out.specs.Lane.{content, has_stopped};
+ghost use Rattle.gr_out.specs.Faults.{Rose};
 ghost use Rattle.gr_out.specs.Stops.{StaysFaultless};
-ghost use Rattle.gr_publog.specs.Text.{log_text};
-ghost use Rattle.gr_publog.specs.Crash.{LogView};
-ghost use Rattle.gr_publog.specs.Calls.{Opens, Tally};
-ghost use Rattle.gr_pubend.specs.Log.{log_of};
+ghost use Rattle.gr_publog.specs.Views.{LogView, lanes_at, AwayFrom};
+ghost use Rattle.gr_publog.specs.Calls.{Tally};
+ghost use Rattle.gr_publog.specs.Opens.{Opens};
+ghost use Rattle.gr_pubend.specs.Log.{said};
 ghost use Rattle.gr_topo.specs.Topology.{subscribers_of};
 ghost use Rattle.gr_model.specs.Net.{numbers, is_host};
 ghost use Rattle.gr_model.specs.NetOf.{net_of};
 ghost use Rattle.gr_model.specs.Opening.{reopened_line};
 ghost use Rattle.gr_broker_relay.specs.Branch.{branch_of};
 ghost use Rattle.gr_broker_relay.specs.Held.{held_view, seen_branch, HasEdges, IsSite};
-ghost use Rattle.gr_broker.specs.Lanes.{log_lane};
+ghost use Rattle.gr_broker.specs.Lanes.{log_lane, either_stopped, AreUnset};
 ghost use Rattle.gr_broker.specs.Told.{log_answer};
-ghost use Rattle.gr_broker.specs.Opened.{LosesNothing, IsDamagedAt};
+ghost use Rattle.gr_broker.specs.Opened.{LosesNothing, found_at, IsDamagedAt};
 ghost use Rattle.gr_broker.specs.Starting.{fault_of, fresh_view, is_here, IsStartedAt, lines_at, AreStarted, AreOpened};
 ghost use Rattle.gr_broker.specs.Starting.{TouchesLanes};
 
@@ -57,7 +56,7 @@ fn fresh_held(site: &Site<'_>, know: Know, joins: Joins, log: Option<Log>) -> Re
 
 /// The line of a log that was opened, where it is not empty.
 fn tell_opened(log: &Log, p: u16, into: &mut Reports) -> Result<(), Memory>
-    ensures { OnOk result (into.new ≡ into.old ++ reopened_line (log_of log.now.records) p) }
+    ensures { OnOk result (into.new ≡ into.old ++ reopened_line (said log.now) p) }
 {
     let _ = log.is_broken();
     let settled = log.settled();
@@ -78,12 +77,12 @@ fn held_over(site: &Site<'_>, log: Log, into: &mut Reports) -> Result<Held, Memo
     requires here { is_here site.now ≡ true }
     requires lane { log.lane ≡ log_lane site.now.publisher }
     requires whole { log.broken ≡ false }
-    requires late { log.late ≡ site.now.topo.now.late }
+    requires late { log.state.late ≡ site.now.topo.now.late }
     ensures started { IfOk result (λ held. IsStartedAt site.now held) }
     ensures log { IfOk result (λ held. held.log ≡ Some log) }
     ensures lines { IfOk result (λ held. into.new ≡ into.old ++ lines_at site.now held) }
 {
-    // Proof only: the records follow one another.
+    // Proof only: what the log holds is in order.
     let _ = log.is_broken();
     let know = known_by(site.alloc, &log)?;
     tell_opened(&log, site.publisher, into)?;
@@ -133,25 +132,31 @@ fn open_publisher<D: Disk>(
     requires late { late.now ≡ site.now.topo.now.late }
     ensures started { IfOk result (λ held. IsStartedAt site.now held) }
     ensures lines { IfOk result (λ held. into.new ≡ into.old ++ lines_at site.now held) }
-    ensures opens { let lane = log_lane site.now.publisher in D.tells → IfOk result (λ held. (l : LogView)
-        → held.log ≡ Some l → Opens late.now (D.lane_of disk.old lane) (D.lane_of disk.new lane) (Ok l)) }
+    ensures opens { let lane = log_lane site.now.publisher in let before = lanes_at (D.lane_of disk.old) lane in
+        let after = lanes_at (D.lane_of disk.new) lane in D.tells → IfOk result (λ held. (l : LogView)
+        → held.log ≡ Some l → Opens site.now.topo.now.late lane before after (Ok l)) }
     ensures damaged { D.tells → (p at : ℕ) → result ≡ Err (BrokerFault.Damaged p at)
         → (p ≡ site.now.publisher) × (is_here site.now ≡ true)
-        × (log_text late.now (content (D.lane_of disk.old (log_lane site.now.publisher))) ≡ Err at) }
+        × (found_at site.now.topo.now (D.lane_of disk.old) site.now.publisher ≡ Err at) }
     ensures damaged_here { (p at : ℕ) → result ≡ Err (BrokerFault.Damaged p at)
         → (p ≡ site.now.publisher) × (is_here site.now ≡ true) }
     ensures never_reopen { result ≢ Err BrokerFault.Reopen }
     ensures below { is_here site.now ≡ false → disk.new ≡ disk.old }
-    ensures others { D.tells → (n : ℕ) → n ≢ log_lane site.now.publisher → D.lane_of disk.new n ≡ D.lane_of disk.old n }
-    ensures any_moment { let lane = log_lane site.now.publisher in
-        D.tells → is_here site.now ≡ true → LosesNothing late.now (D.lane_of disk.old lane) (D.lane_of disk.new lane) }
+    ensures others { let lane = log_lane site.now.publisher in
+        D.tells → (n : ℕ) → AwayFrom lane n → D.lane_of disk.new n ≡ D.lane_of disk.old n }
+    ensures any_moment { let lane = log_lane site.now.publisher in let before = lanes_at (D.lane_of disk.old) lane in
+        let after = lanes_at (D.lane_of disk.new) lane in
+        D.tells → is_here site.now ≡ true → LosesNothing site.now.topo.now.late before after }
     ensures tally { let f = D.faults disk.old in let s = D.stops disk.old in
         Tally f s (D.faults disk.new) (D.stops disk.new) (log_answer result) }
     ensures by_stop { D.tells → D.faultless disk.old → IsErrOf result BrokerFault.Disk
-        → has_stopped (D.lane_of disk.new (log_lane site.now.publisher)).stop ≡ true }
-    ensures never_fails { D.tells → D.faultless disk.old
-        → (is_here site.now ≡ true → (D.lane_of disk.old (log_lane site.now.publisher)).stop ≡ Unset)
-        → result ≢ Err BrokerFault.Disk }
+        → either_stopped (lanes_at (D.lane_of disk.new) (log_lane site.now.publisher)) ≡ true }
+    ensures why { D.tells → IsErrOf result BrokerFault.Disk
+        → (either_stopped (lanes_at (D.lane_of disk.new) (log_lane site.now.publisher)) ≡ true)
+        ⊎ Rose (D.faults disk.old) (D.faults disk.new) }
+    ensures unset { let lane = log_lane site.now.publisher in let before = lanes_at (D.lane_of disk.old) lane in
+        D.tells → AreUnset before → AreUnset (lanes_at (D.lane_of disk.new) lane) }
+    ensures disk_here { IsErrOf result BrokerFault.Disk → is_here site.now ≡ true }
     ensures faultless { let f = D.faults disk.old in
         StaysFaultless (D.faultless disk.old) (D.faultless disk.new) f (D.faults disk.new) }
 {
@@ -209,11 +214,17 @@ pub(crate) fn open_publishers<D: Disk>(
     ensures tally { let f = D.faults disk.old in let s = D.stops disk.old in
         Tally f s (D.faults disk.new) (D.stops disk.new) (log_answer result) }
     ensures by_stop { D.tells → D.faultless disk.old → IsErrOf result BrokerFault.Disk
-        → (p : ℕ) × (has_stopped (D.lane_of disk.new (log_lane p)).stop ≡ true) }
+        → (p : ℕ) × (either_stopped (lanes_at (D.lane_of disk.new) (log_lane p)) ≡ true) }
+    ensures why { D.tells → IsErrOf result BrokerFault.Disk
+        → ((p : ℕ) × (either_stopped (lanes_at (D.lane_of disk.new) (log_lane p)) ≡ true))
+        ⊎ Rose (D.faults disk.old) (D.faults disk.new) }
     ensures never_fails { D.tells → D.faultless disk.old
         → ((p : ℕ) → p < length topo.now.publishers → is_host (net_of topo.now) p b ≡ true
-        → (D.lane_of disk.old (log_lane p)).stop ≡ Unset)
+        → AreUnset (lanes_at (D.lane_of disk.old) (log_lane p)))
         → result ≢ Err BrokerFault.Disk }
+    ensures rises { D.tells → ((p : ℕ) → p < length topo.now.publishers → is_host (net_of topo.now) p b ≡ true
+        → AreUnset (lanes_at (D.lane_of disk.old) (log_lane p)))
+        → IsErrOf result BrokerFault.Disk → Rose (D.faults disk.old) (D.faults disk.new) }
     ensures faultless { let f = D.faults disk.old in
         StaysFaultless (D.faultless disk.old) (D.faultless disk.new) f (D.faults disk.new) }
 {

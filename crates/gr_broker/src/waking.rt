@@ -3,8 +3,7 @@
 ghost use Rattle.std.specs.Prelude.{◌≡◌, ◌↔◌, ◌⊎◌, ◌<◌, ◌≤◌, true, length, is_some, None, Some, IsSome};
 ghost use Rattle.std.specs.Prelude.{IfOk, OnOk, IsErrOf};
 ghost use Rattle.gr_tick.specs.declared.TheConstants.{MAX_TICK};
-ghost use Rattle.gr_publog.specs.Crash.{LogView};
-ghost use Rattle.gr_publog.specs.Calls.{IsReady};
+ghost use Rattle.gr_publog.specs.Views.{LogView, lanes_at, IsReady};
 ghost use Rattle.gr_model.specs.Net.{is_host};
 ghost use Rattle.gr_model.specs.NetOf.{net_of};
 ghost use Rattle.gr_model.specs.Broker.{Outcome as MachineOutcome};
@@ -15,10 +14,10 @@ ghost use Rattle.gr_broker.specs.Lanes.{log_lane};
 ghost use Rattle.gr_broker.specs.Seen.{log_in, log_said, machine_log, is_broken, broken_at, broker_at, HasJoins};
 ghost use Rattle.gr_broker.specs.Of.{IsBrokerOf, LogsStand};
 ghost use Rattle.gr_broker.specs.Told.{log_answer};
-ghost use Rattle.gr_broker.specs.Parts.{part_of, part_wake, part_mark_logs, part_cut_logs, part_marked, part_woken};
+ghost use Rattle.gr_broker.specs.Parts.{part_of, part_wake, part_mark_logs, part_cut, part_marked, part_woken};
 ghost use Rattle.gr_broker.specs.Parts.{part_failed};
-ghost use Rattle.gr_broker.specs.Hosted.{wake_at, mark_logs_at, cut_logs_at, after_mark, after_wake, AppendsTwice};
-ghost use Rattle.gr_broker.specs.Hosted.{AppendsTwiceAt, WakeLeaves};
+ghost use Rattle.gr_broker.specs.Hosted.{wake_at, mark_logs_at, cut_at, after_mark, after_wake, Wakes, WakesAt};
+ghost use Rattle.gr_broker.specs.Hosted.{WakeLeaves};
 ghost use Rattle.gr_broker.specs.Keeps.{IsAtHost, UsesLane};
 
 use crate::hosting::wake_host;
@@ -38,11 +37,11 @@ fn wake_here<D: Disk>(
     requires at { IsAtHost site.now part.old }
     requires hosted { is_some part.old.log ≡ is_host (net_of site.now.topo.now) site.now.publisher site.now.broker }
     requires lanes { (l : LogView) → part.old.log ≡ Some l → l.lane ≡ log_lane site.now.publisher }
-    requires late { (l : LogView) → part.old.log ≡ Some l → l.late ≡ site.now.topo.now.late }
+    requires late { (l : LogView) → part.old.log ≡ Some l → l.state.late ≡ site.now.topo.now.late }
     requires joined { (l : LogView) → part.old.log ≡ Some l → HasJoins (held_view part.old) l }
     requires now { now ≤ MAX_TICK }
     requires stands { let lane = log_lane site.now.publisher in
-        D.tells → (l : LogView) → part.old.log ≡ Some l → IsReady l (D.lane_of disk.old lane) }
+        D.tells → (l : LogView) → part.old.log ≡ Some l → IsReady l (lanes_at (D.lane_of disk.old) lane) }
     ensures told { let x = part_of part.old in
         IfOk result (λ told. Tells (part_wake site.now.topo.now site.now.publisher site.now.broker now x) told) }
     ensures leaves { let x = part_of part.old in
@@ -55,26 +54,29 @@ fn wake_here<D: Disk>(
     ensures kept { IsKept (net_of site.now.topo.now) site.now.publisher site.now.broker (held_view part.new) }
     ensures hosted { is_some part.new.log ≡ is_some part.old.log }
     ensures lanes { (l : LogView) → part.new.log ≡ Some l → l.lane ≡ log_lane site.now.publisher }
-    ensures late { (l : LogView) → part.new.log ≡ Some l → l.late ≡ site.now.topo.now.late }
+    ensures late { (l : LogView) → part.new.log ≡ Some l → l.state.late ≡ site.now.topo.now.late }
     ensures joined { (l : LogView) → part.new.log ≡ Some l → HasJoins (held_view part.new) l }
     ensures lane { let x = part_of part.old in let lane = log_lane site.now.publisher in
-        D.tells → (l : LogView) → part.old.log ≡ Some l → AppendsTwice l (part_mark_logs site.now.topo.now now x)
-        (part_cut_logs site.now.topo.now site.now.publisher site.now.broker now x)
-        (D.lane_of disk.old lane) (D.lane_of disk.new lane) result }
+        let reclaim = site.now.topo.now.settings.reclaim in
+        D.tells → (l : LogView) → part.old.log ≡ Some l → Wakes l (part_mark_logs site.now.topo.now now x)
+        (part_cut site.now.topo.now site.now.publisher site.now.broker now x) reclaim
+        (lanes_at (D.lane_of disk.old) lane) (lanes_at (D.lane_of disk.new) lane) result }
     ensures reopen { let x = part_of part.old in IsErrOf result LogFault.Reopen ↔ ((is_broken part.old.log ≡ true)
         × (IsSome (part_mark_logs site.now.topo.now now x)
-        ⊎ IsSome (part_cut_logs site.now.topo.now site.now.publisher site.now.broker now x))) }
+        ⊎ IsSome (part_cut site.now.topo.now site.now.publisher site.now.broker now x))) }
     ensures closed { is_broken part.old.log ≡ true → disk.new ≡ disk.old }
     ensures uses { let lane = log_lane site.now.publisher in
         UsesLane D.tells D.faultless D.lane_of D.faults D.stops lane disk.old disk.new result }
     ensures stands { let lane = log_lane site.now.publisher in
-        D.tells → (l : LogView) → part.new.log ≡ Some l → IsReady l (D.lane_of disk.new lane) }
+        D.tells → (l : LogView) → part.new.log ≡ Some l → IsReady l (lanes_at (D.lane_of disk.new) lane) }
 {
     // Proof only: a time of silence is at least 1.
     let _ = site.topo.settings();
     let Some(mut log) = part.log.take() else {
         unreachable!()
     };
+    // Proof only: what the log holds is in order.
+    let _ = log.is_broken();
     let answer = wake_host(site, disk, &mut log, part, now);
     part.log = Some(log);
     answer
@@ -91,11 +93,11 @@ fn wake_part<D: Disk>(
     requires kept { IsKept (net_of site.now.topo.now) site.now.publisher site.now.broker (held_view part.old) }
     requires hosted { is_some part.old.log ≡ is_host (net_of site.now.topo.now) site.now.publisher site.now.broker }
     requires lanes { (l : LogView) → part.old.log ≡ Some l → l.lane ≡ log_lane site.now.publisher }
-    requires late { (l : LogView) → part.old.log ≡ Some l → l.late ≡ site.now.topo.now.late }
+    requires late { (l : LogView) → part.old.log ≡ Some l → l.state.late ≡ site.now.topo.now.late }
     requires joined { (l : LogView) → part.old.log ≡ Some l → HasJoins (held_view part.old) l }
     requires now { now ≤ MAX_TICK }
     requires stands { let lane = log_lane site.now.publisher in
-        D.tells → (l : LogView) → part.old.log ≡ Some l → IsReady l (D.lane_of disk.old lane) }
+        D.tells → (l : LogView) → part.old.log ≡ Some l → IsReady l (lanes_at (D.lane_of disk.old) lane) }
     ensures told { let x = part_of part.old in
         IfOk result (λ told. Tells (part_wake site.now.topo.now site.now.publisher site.now.broker now x) told) }
     ensures leaves { let x = part_of part.old in
@@ -108,21 +110,22 @@ fn wake_part<D: Disk>(
     ensures kept { IsKept (net_of site.now.topo.now) site.now.publisher site.now.broker (held_view part.new) }
     ensures hosted { is_some part.new.log ≡ is_some part.old.log }
     ensures lanes { (l : LogView) → part.new.log ≡ Some l → l.lane ≡ log_lane site.now.publisher }
-    ensures late { (l : LogView) → part.new.log ≡ Some l → l.late ≡ site.now.topo.now.late }
+    ensures late { (l : LogView) → part.new.log ≡ Some l → l.state.late ≡ site.now.topo.now.late }
     ensures joined { (l : LogView) → part.new.log ≡ Some l → HasJoins (held_view part.new) l }
     ensures lane { let x = part_of part.old in let lane = log_lane site.now.publisher in
-        D.tells → (l : LogView) → part.old.log ≡ Some l → AppendsTwice l (part_mark_logs site.now.topo.now now x)
-        (part_cut_logs site.now.topo.now site.now.publisher site.now.broker now x)
-        (D.lane_of disk.old lane) (D.lane_of disk.new lane) result }
+        let reclaim = site.now.topo.now.settings.reclaim in
+        D.tells → (l : LogView) → part.old.log ≡ Some l → Wakes l (part_mark_logs site.now.topo.now now x)
+        (part_cut site.now.topo.now site.now.publisher site.now.broker now x) reclaim
+        (lanes_at (D.lane_of disk.old) lane) (lanes_at (D.lane_of disk.new) lane) result }
     ensures reopen { let x = part_of part.old in IsErrOf result LogFault.Reopen ↔ ((is_broken part.old.log ≡ true)
         × (IsSome (part_mark_logs site.now.topo.now now x)
-        ⊎ IsSome (part_cut_logs site.now.topo.now site.now.publisher site.now.broker now x))) }
+        ⊎ IsSome (part_cut site.now.topo.now site.now.publisher site.now.broker now x))) }
     ensures below { part.old.log ≡ None → disk.new ≡ disk.old }
     ensures closed { is_broken part.old.log ≡ true → disk.new ≡ disk.old }
     ensures uses { let lane = log_lane site.now.publisher in
         UsesLane D.tells D.faultless D.lane_of D.faults D.stops lane disk.old disk.new result }
     ensures stands { let lane = log_lane site.now.publisher in
-        D.tells → (l : LogView) → part.new.log ≡ Some l → IsReady l (D.lane_of disk.new lane) }
+        D.tells → (l : LogView) → part.new.log ≡ Some l → IsReady l (lanes_at (D.lane_of disk.new) lane) }
 {
     if site.position.host {
         return wake_here(site, disk, part, now);
@@ -167,11 +170,12 @@ pub(crate) fn wake<D: Disk>(
         OnOk result (let o : MachineOutcome = wake_at seat.now.topo.now b p now in machine_log b' p ≡ o.log) }
     ensures fits { IsBrokerOf seat.now.topo.now (broker_at seat.now held.new.items) }
     ensures lane { let b = broker_at seat.now held.old.items in
-        D.tells → AppendsTwiceAt b p (mark_logs_at seat.now.topo.now b p now) (cut_logs_at seat.now.topo.now b p now)
+        let reclaim = seat.now.topo.now.settings.reclaim in
+        D.tells → WakesAt b p (mark_logs_at seat.now.topo.now b p now) (cut_at seat.now.topo.now b p now) reclaim
         (D.lane_of disk.old) (D.lane_of disk.new) (log_answer result) }
     ensures reopen { let b = broker_at seat.now held.old.items in
         IsErrOf result BrokerFault.Reopen ↔ ((is_broken (log_in b p) ≡ true)
-        × (IsSome (mark_logs_at seat.now.topo.now b p now) ⊎ IsSome (cut_logs_at seat.now.topo.now b p now))) }
+        × (IsSome (mark_logs_at seat.now.topo.now b p now) ⊎ IsSome (cut_at seat.now.topo.now b p now))) }
     ensures below { let b = broker_at seat.now held.old.items in log_in b p ≡ None → disk.new ≡ disk.old }
     ensures closed { let b = broker_at seat.now held.old.items in is_broken (log_in b p) ≡ true → disk.new ≡ disk.old }
     ensures uses { let answer = log_answer result in

@@ -1,17 +1,13 @@
 -- How far all is consolidated, and so how far a log is cut
-use Rattle.std.proofs.Common.{◌≡◌, ◌≢◌, ◌⊎◌, inl, inr, ℕ, ◌+◌, ◌-◌, ◌<◌, ◌≤◌, min, Bool, true, false, ◌||◌, List, [], ◌∷◌, length, Option, Some, None, refl, sym, ap₂, ◌∙◌, subst, arith}
+use Rattle.std.proofs.Common.{◌≡◌, ◌≢◌, ◌⊎◌, inl, inr, ℕ, ◌+◌, ◌-◌, ◌<◌, ◌≤◌, min, Bool, true, false, ◌||◌, List, [], ◌∷◌, length, Option, Some, None, refl, sym, ap, ◌∙◌, subst, arith}
 use Rattle.std.specs.Prelude.{nat_lt, if◌then◌else◌}
 use Rattle.std.proofs.lemmas.Bool.{cases_lt, true≢false}
 use Rattle.gr_tick.specs.Runs.{first_bottom_from}
 use Rattle.gr_tick.proofs.RunLaws.{IsFirstBottom, first_bottom_from-is}
 use Rattle.gr_curio.specs.declared.values.Q3.TheVariants.{N, A}
 use Rattle.gr_curio.specs.Values.{Wanted, wanted_at}
-use Rattle.gr_publog.specs.declared.record.Record.{Record}
-use Rattle.gr_publog.specs.State.{first_standing, state_of, Follow}
-use Rattle.gr_pubend.specs.Log.{log_of, Stays}
-use Rattle.gr_pubend.proofs.Knowing.{stays_of}
 use Rattle.gr_model.specs.Net.{Net, keeps_horizon, is_empty, not_empty}
-use Rattle.gr_model.specs.Broker.{View, horizon_if, is_consolidated, is_consolidated_by, consolidated, done_upto}
+use Rattle.gr_model.specs.Broker.{View, Log, horizon_if, is_consolidated, is_consolidated_by, consolidated, done_upto}
 use Rattle.gr_model_calls.proofs.calls.Pieces.{consolidated-is}
 use Rattle.gr_broker_relay.specs.Cuts.{tick_cut}
 
@@ -72,14 +68,11 @@ keeps_or_some net p b ws many = go (keeps_horizon net p b) refl
     go false e = from_length ws (some_want net p b ws many e)
 
 -- so far is cut, by the tick up to which all is consolidated
-pub due_is : (net : Net) (p b upto : ℕ) (v : View) (late : List ℕ) (rs : List Record) (horizon : Option ℕ) → length v.wants ≡ length (net.children p b) → Follow (first_standing late) rs → horizon ≡ horizon_if (keeps_horizon net p b) v.horizon →
-    upto ≤ (state_of rs).settled → ((t : ℕ) → 1 ≤ t → t ≤ upto → is_consolidated horizon v.wants t ≡ true) → (upto < (state_of rs).settled → is_consolidated horizon v.wants (upto + 1) ≡ false) →
-    (if nat_lt (state_of rs).cut upto then Some upto else None) ≡ tick_cut net p b v (log_of rs)
-due_is net p b upto v late rs horizon many follow is within each stops =
-    ap₂ (λ cut tick. if nat_lt cut tick then Some tick else None) (sym s.cut)
-    (upto_is (keeps_horizon net p b) v.horizon (log_of rs).settled upto v.wants (keeps_or_some net p b v.wants many) (omega (arith, within, s.settled))
+pub due_is : (net : Net) (p b upto : ℕ) (v : View) (log : Log) (horizon : Option ℕ) → length v.wants ≡ length (net.children p b) → horizon ≡ horizon_if (keeps_horizon net p b) v.horizon →
+    upto ≤ log.settled → ((t : ℕ) → 1 ≤ t → t ≤ upto → is_consolidated horizon v.wants t ≡ true) → (upto < log.settled → is_consolidated horizon v.wants (upto + 1) ≡ false) →
+    (if nat_lt log.cut upto then Some upto else None) ≡ tick_cut net p b v log
+due_is net p b upto v log horizon many is within each stops =
+    ap (λ tick. if nat_lt log.cut tick then Some tick else None)
+    (upto_is (keeps_horizon net p b) v.horizon log.settled upto v.wants (keeps_or_some net p b v.wants many) within
     (λ t x y. subst (λ h. is_consolidated h v.wants t ≡ true) is (each t x y))
-    (λ x. subst (λ h. is_consolidated h v.wants (upto + 1) ≡ false) is (stops (omega (arith, x, s.settled)))))
-  where
-    s : Stays (log_of rs) (state_of rs)
-    s = stays_of late rs follow
+    (λ x. subst (λ h. is_consolidated h v.wants (upto + 1) ≡ false) is (stops x)))

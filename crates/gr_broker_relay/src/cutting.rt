@@ -1,10 +1,9 @@
 //! How far the log of a publisher that is here is to be cut.
 
-ghost use Rattle.std.specs.Prelude.{◌≡◌, ◌<◌, ◌≤◌, true, length, IfSome};
+ghost use Rattle.std.specs.Prelude.{◌≡◌, ◌<◌, ◌≤◌, length, IfSome};
 ghost use Rattle.std.specs.Option.{ForSome, ForNone};
 ghost use Rattle.gr_tick.specs.declared.TheConstants.{MAX_TICK};
-ghost use Rattle.gr_publog.specs.State.{standing_of, may_follow};
-ghost use Rattle.gr_pubend.specs.Log.{log_of};
+ghost use Rattle.gr_pubend.specs.Log.{said};
 ghost use Rattle.gr_model.specs.Net.{keeps_horizon};
 ghost use Rattle.gr_model.specs.NetOf.{net_of};
 ghost use Rattle.gr_model.specs.Broker.{horizon_if};
@@ -14,7 +13,7 @@ ghost use Rattle.gr_broker_relay.specs.Held.{held_view, IsSite};
 
 use crate::held::Held;
 use crate::site::Site;
-use gr_publog::{Log, Record};
+use gr_publog::Log;
 use gr_tick::MAX_TICK;
 
 /// The horizon, where one is kept. Takes no memory.
@@ -37,11 +36,11 @@ pub fn cut_due(site: &Site<'_>, held: &Held, log: &Log) -> Option<u64>
     requires site { IsSite site.now }
     requires kept { IsKept (net_of site.now.topo.now) site.now.publisher site.now.broker (held_view held.now) }
     ensures tick { result ≡ tick_cut (net_of site.now.topo.now) site.now.publisher site.now.broker
-        (held_view held.now) (log_of log.now.records) }
-    ensures follows { let stands = standing_of log.now.late log.now.records in
-        IfSome result (λ tick. may_follow stands (Record.Cut tick) ≡ true) }
+        (held_view held.now) (said log.now) }
+    ensures past { IfSome result (λ tick. log.now.state.cut < tick) }
+    ensures upto { IfSome result (λ tick. tick ≤ log.now.state.settled) }
 {
-    // Proof only: the records follow one another.
+    // Proof only: what the log holds is in order.
     let _ = log.is_broken();
     let upto = held
         .wants

@@ -1,8 +1,8 @@
-use Rattle.std.proofs.Common.{◌≡◌, ℕ, ◌*◌, ◌<◌, length, map, get_or, set, List, Option, Some, None, OnOk, refl, sym, ap, ap₂, ◌∙◌, subst, arith}
+use Rattle.std.proofs.Common.{◌≡◌, ℕ, ◌*◌, ◌<◌, length, map, get_or, set, List, Option, Some, None, OnOk, refl, sym, ap, ap₂, ◌∙◌, subst}
 use Rattle.std.specs.Prelude.{is_some, IsSome}
 use Rattle.std.proofs.lemmas.List.{length-map}
-use Rattle.gr_publog.specs.Crash.{LogView}
-use Rattle.gr_publog.specs.Calls.{IsReady, Appends, Leaves}
+use Rattle.gr_publog.specs.Views.{LogView, lanes_at, AwayFrom, IsReady}
+use Rattle.gr_publog.specs.Calls.{Appends, Leaves}
 use Rattle.gr_pubend.specs.Answers.{published, event_of}
 use Rattle.gr_model.specs.NetOf.{net_of}
 use Rattle.gr_model.specs.Broker.{View, Outcome as MachineOutcome, publish, seen}
@@ -14,6 +14,7 @@ use Rattle.gr_broker.specs.Hosted.{publish_logs_at}
 use Rattle.gr_broker.specs.Keeps.{UsesLane}
 use Rattle.gr_broker.proofs.Reading.{seen_set, each_set, on_ok}
 use Rattle.gr_broker.proofs.Parts.{part_view, part_log, leaves_exchanged, log_here, each_log, stays_some, stays_on, stays_late, there, said_after, appends_at}
+use Rattle.gr_broker.proofs.Opening.{lanes_there}
 use Rattle.gr_broker.proofs.Joined.{Beside, beside_said, beside_after, said_joins, publish_joins, hold_set}
 use Rattle.gr_broker.proofs.publishing.publish_in.Given.{Over}
 use Rattle.gr_broker.proofs.publishing.publish_in.Goals as goal
@@ -52,7 +53,7 @@ kept_here g c =
 pub publish_part-requires-clause-stands : goal.publish_part-requires-clause-stands
 publish_part-requires-clause-stands g c t l e =
     let e' = sym (part_log c.args.seat.now.number c.args.seat.now.here.now c.args.seat.now.edges.now c.args.seat.now.positions.now c.args.held.now.items c.args.p c.index_mut.result.now (subst (λ n. c.args.p < n) (sym c.requires.many) c.requires.publisher) c.index_mut.ensures.value) ∙ e in
-    subst (λ (n : ℕ). IsReady l (g.D.Disk.lane_of c.args.disk.now n)) (sym (c.requires.lanes c.args.p l e')) (c.requires.stands t c.args.p l e')
+    subst (λ (n : ℕ). IsReady l (lanes_at (g.D.Disk.lane_of c.args.disk.now) n)) (sym (c.requires.lanes c.args.p l e')) (c.requires.stands t c.args.p l e')
 
 pub returns-clause-leaves : goal.returns-clause-leaves
 returns-clause-leaves g c =
@@ -90,7 +91,7 @@ returns-clause-lanes g c =
 
 pub returns-clause-late : goal.returns-clause-late
 returns-clause-late g c =
-    each_log c.args.seat.now.number c.args.seat.now.here.now c.args.seat.now.edges.now c.args.seat.now.positions.now c.args.held.now.items c.args.p c.index_mut.result.now (below g c) c.index_mut.ensures.value (λ q o. (l : LogView) → o ≡ Some l → l.late ≡ c.args.seat.now.topo.now.late) c.publish_part.new.part (λ q n. c.requires.late q)
+    each_log c.args.seat.now.number c.args.seat.now.here.now c.args.seat.now.edges.now c.args.seat.now.positions.now c.args.held.now.items c.args.p c.index_mut.result.now (below g c) c.index_mut.ensures.value (λ q o. (l : LogView) → o ≡ Some l → l.state.late ≡ c.args.seat.now.topo.now.late) c.publish_part.new.part (λ q n. c.requires.late q)
     (stays_late c.args.seat.now.topo.now.late c.publish_part.result c.index_mut.result.now.log c.publish_part.new.part.log (event_of (published (log_said c.index_mut.result.now.log) c.args.number c.args.event.now c.args.now) c.args.number c.args.event.now) (λ l e. c.requires.late c.args.p l (sym (log_is g c) ∙ e)) c.publish_part.ensures.log)
 
 -- the joins that are held beside its log
@@ -115,14 +116,23 @@ returns-clause-uses g c =
     there c.index_mut.result.now.log (has_log g c) (λ l e. subst (λ (n : ℕ). UsesLane g.D.Disk.tells g.D.Disk.faultless g.D.Disk.lane_of g.D.Disk.faults g.D.Disk.stops n c.args.disk.now c.publish_part.new.disk c.publish_part.result)
     (on_lane g c l e) (c.publish_part.ensures.uses l e))
 
+-- no lane of another publisher is touched
+others_stay : (g : Over) (c : goal.After-held-1 g) → g.D.Disk.tells → (n : ℕ) → AwayFrom (2 * c.args.p) n → g.D.Disk.lane_of c.publish_part.new.disk n ≡ g.D.Disk.lane_of c.args.disk.now n
+others_stay g c t n away =
+    there c.index_mut.result.now.log (has_log g c) (λ m em. let k = c.publish_part.ensures.uses m em in k.others t n (subst (λ (i : ℕ). AwayFrom i n) (sym (on_lane g c m em)) away))
+
 pub returns-clause-stands : goal.returns-clause-stands
 returns-clause-stands g c t =
-    each_log c.args.seat.now.number c.args.seat.now.here.now c.args.seat.now.edges.now c.args.seat.now.positions.now c.args.held.now.items c.args.p c.index_mut.result.now (below g c) c.index_mut.ensures.value (λ q o. (l : LogView) → o ≡ Some l → IsReady l (g.D.Disk.lane_of c.publish_part.new.disk (2 * q))) c.publish_part.new.part
-    (λ q n l e. subst (IsReady l) (sym (there c.index_mut.result.now.log (has_log g c) (λ m em. let k = c.publish_part.ensures.uses m em in k.others t (2 * q) (λ s. n (let s' = s ∙ on_lane g c m em in omega (arith, s')))))) (c.requires.stands t q l e))
-    (λ l e. subst (λ (n : ℕ). IsReady l (g.D.Disk.lane_of c.publish_part.new.disk n)) (stays_on (2 * c.args.p) c.publish_part.result c.index_mut.result.now.log c.publish_part.new.part.log (event_of (published (log_said c.index_mut.result.now.log) c.args.number c.args.event.now c.args.now) c.args.number c.args.event.now) (on_lane g c) c.publish_part.ensures.log l e) (c.publish_part.ensures.stands t l e))
+    let before = g.D.Disk.lane_of c.args.disk.now in
+    let after = g.D.Disk.lane_of c.publish_part.new.disk in
+    each_log c.args.seat.now.number c.args.seat.now.here.now c.args.seat.now.edges.now c.args.seat.now.positions.now c.args.held.now.items c.args.p c.index_mut.result.now (below g c) c.index_mut.ensures.value (λ q o. (l : LogView) → o ≡ Some l → IsReady l (lanes_at after (2 * q))) c.publish_part.new.part
+    (λ q n l e. subst (IsReady l) (sym (lanes_there before after c.args.p q (others_stay g c t) (λ s. n (sym s)))) (c.requires.stands t q l e))
+    (λ l e. subst (λ (n : ℕ). IsReady l (lanes_at after n)) (stays_on (2 * c.args.p) c.publish_part.result c.index_mut.result.now.log c.publish_part.new.part.log (event_of (published (log_said c.index_mut.result.now.log) c.args.number c.args.event.now c.args.now) c.args.number c.args.event.now) (on_lane g c) c.publish_part.ensures.log l e) (c.publish_part.ensures.stands t l e))
 
 pub returns-clause-lane : goal.returns-clause-lane
 returns-clause-lane g c t =
-    appends_at (broker_at c.args.seat.now c.args.held.now.items) c.args.p (publish_logs_at (broker_at c.args.seat.now c.args.held.now.items) c.args.p c.args.now c.args.number c.args.event.now) (g.D.Disk.lane_of c.args.disk.now) (g.D.Disk.lane_of c.publish_part.new.disk) c.publish_part.result (λ l e.
-    subst (λ (o : Option LogView). Appends l (event_of (published (log_said o) c.args.number c.args.event.now c.args.now) c.args.number c.args.event.now) (g.D.Disk.lane_of c.args.disk.now (2 * c.args.p)) (g.D.Disk.lane_of c.publish_part.new.disk (2 * c.args.p)) c.publish_part.result) (log_is g c)
-    (subst (λ (n : ℕ). Appends l (event_of (published (log_said c.index_mut.result.now.log) c.args.number c.args.event.now c.args.now) c.args.number c.args.event.now) (g.D.Disk.lane_of c.args.disk.now n) (g.D.Disk.lane_of c.publish_part.new.disk n) c.publish_part.result) (on_lane g c l (log_is g c ∙ e)) (c.publish_part.ensures.lane t l (log_is g c ∙ e))))
+    let before = g.D.Disk.lane_of c.args.disk.now in
+    let after = g.D.Disk.lane_of c.publish_part.new.disk in
+    appends_at (broker_at c.args.seat.now c.args.held.now.items) c.args.p (publish_logs_at (broker_at c.args.seat.now c.args.held.now.items) c.args.p c.args.now c.args.number c.args.event.now) before after c.publish_part.result (λ l e.
+    subst (λ (o : Option LogView). Appends l (event_of (published (log_said o) c.args.number c.args.event.now c.args.now) c.args.number c.args.event.now) (lanes_at before (2 * c.args.p)) (lanes_at after (2 * c.args.p)) c.publish_part.result) (log_is g c)
+    (subst (λ (n : ℕ). Appends l (event_of (published (log_said c.index_mut.result.now.log) c.args.number c.args.event.now c.args.now) c.args.number c.args.event.now) (lanes_at before n) (lanes_at after n) c.publish_part.result) (on_lane g c l (log_is g c ∙ e)) (c.publish_part.ensures.lane t l (log_is g c ∙ e))))

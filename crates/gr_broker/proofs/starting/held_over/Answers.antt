@@ -2,7 +2,7 @@ use Rattle.std.proofs.Common.{◌++◌, length, sym, ap, ◌∙◌}
 use Rattle.std.proofs.lemmas.Bool.{false≢true}
 use Rattle.std.proofs.lemmas.Bool.Decides.{Decides-eqb}
 use Rattle.std.proofs.lemmas.List.{append_assoc}
-use Rattle.gr_pubend.specs.Log.{log_of}
+use Rattle.gr_pubend.specs.Log.{said}
 use Rattle.gr_model.specs.Broker.{Outcome}
 use Rattle.gr_model.specs.Opening.{reopened_line}
 use Rattle.gr_broker_relay.specs.Held.{held_view}
@@ -16,7 +16,7 @@ returns-then-is_empty-clause-started c =
     let held = held_view c.in_ok-held.held in
     let alone = nobody s.here.now _ c.requires.site.here ((Decides-eqb (length s.here.now) 0).0 (sym c.is_empty.ensures ∙ c.if-is_empty.true)) in
     let fresh = fresh_here s.topo.now s.publisher s.broker c.requires.here c.args.log c.in_ok-know.know.runs c.share-joins.result held c.in_ok-held.ensures.view c.in_ok-know.ensures.known (c.share-joins.ensures ∙ c.joins.ensures) in
-    let lates = log_late s.topo.now c.args.log.late c.args.log.records c.requires.late c.is_broken.ensures.follow in
+    let lates = log_late s.topo.now c.args.log.state c.requires.late c.is_broken.ensures.state in
     started_alone s.topo.now s.publisher s.broker c.requires.here c.args.log c.requires.lane c.requires.whole c.requires.late held alone fresh lates c.in_ok-held.held.log c.in_ok-held.ensures.log
 
 pub returns-then-is_empty-clause-lines : goal.returns-then-is_empty-clause-lines
@@ -31,7 +31,7 @@ learn-requires-clause-kept c =
     let s = c.args.site.now in
     let held = held_view c.in_ok-held.held in
     let fresh = fresh_here s.topo.now s.publisher s.broker c.requires.here c.args.log c.in_ok-know.know.runs c.share-joins.result held c.in_ok-held.ensures.view c.in_ok-know.ensures.known (c.share-joins.ensures ∙ c.joins.ensures) in
-    fresh_kept s.topo.now s.publisher s.broker c.requires.here c.args.log held fresh (log_late s.topo.now c.args.log.late c.args.log.records c.requires.late c.is_broken.ensures.follow)
+    fresh_kept s.topo.now s.publisher s.broker c.requires.here c.args.log held fresh (log_late s.topo.now c.args.log.state c.requires.late c.is_broken.ensures.state)
 
 pub returns-clause-started : goal.returns-clause-started
 returns-clause-started c =
@@ -41,7 +41,7 @@ returns-clause-started c =
     let fresh = fresh_here s.topo.now s.publisher s.broker c.requires.here c.args.log c.in_ok-know.know.runs c.share-joins.result held c.in_ok-held.ensures.view c.in_ok-know.ensures.known (c.share-joins.ensures ∙ c.joins.ensures) in
     let same = learns_nothing s.topo.now s.publisher s.broker c.requires.here c.args.log c.new.result held c.new.ensures fresh in
     started_with s.topo.now s.publisher s.broker c.requires.here c.args.log c.requires.lane c.requires.whole c.requires.late (held_view c.learn-2.new.held) some
-    (c.in_ok-learn.ensures.view (log_of c.args.log.records) ∙ ap (λ (o : Outcome). o.view) same) c.in_ok-learn.ensures.kept c.learn-2.new.held.log (c.in_ok-learn.ensures.log ∙ c.in_ok-held.ensures.log)
+    (c.in_ok-learn.ensures.view (said c.args.log) ∙ ap (λ (o : Outcome). o.view) same) c.in_ok-learn.ensures.kept c.learn-2.new.held.log (c.in_ok-learn.ensures.log ∙ c.in_ok-held.ensures.log)
 
 pub returns-clause-lines : goal.returns-clause-lines
 returns-clause-lines c =
@@ -50,8 +50,8 @@ returns-clause-lines c =
     let some = somebody s.here.now _ c.requires.site.here (λ e. false≢true (sym c.if-is_empty.false ∙ c.is_empty.ensures ∙ (Decides-eqb (length s.here.now) 0).1 e)) in
     let fresh = fresh_here s.topo.now s.publisher s.broker c.requires.here c.args.log c.in_ok-know.know.runs c.share-joins.result held c.in_ok-held.ensures.view c.in_ok-know.ensures.known (c.share-joins.ensures ∙ c.joins.ensures) in
     let same = learns_nothing s.topo.now s.publisher s.broker c.requires.here c.args.log c.new.result held c.new.ensures fresh in
-    let told = c.in_ok-learn.ensures.told (log_of c.args.log.records) in
-    let line = reopened_line (log_of c.args.log.records) s.publisher in
+    let told = c.in_ok-learn.ensures.told (said c.args.log) in
+    let line = reopened_line (said c.args.log) s.publisher in
     let into = c.args.into.now in
     c.in_ok-append.ensures.ok
     ∙ ap (λ xs. xs ++ c.learn-2.new.into.reports) c.in_ok-tell_opened.ensures

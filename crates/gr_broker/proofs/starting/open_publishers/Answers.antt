@@ -1,13 +1,12 @@
-use Rattle.std.proofs.Common.{◌≡◌, ℕ, ◌+◌, ◌*◌, ◌<◌, List, ◌∙◌, ap, subst, length, map, arith, Ok, Err}
-use Rattle.gr_out.specs.Lane.{content}
-use Rattle.gr_publog.specs.Text.{log_text}
-use Rattle.gr_publog.specs.Calls.{Opens}
+use Rattle.std.proofs.Common.{inl, inr, ⊎_elim, ℕ, ◌+◌, ◌*◌, ◌<◌, ◌∙◌, ap, subst, length, map, arith, Err}
+use Rattle.gr_out.specs.Faults.{Rose}
+use Rattle.gr_publog.specs.Views.{lanes_at}
 use Rattle.gr_broker_relay.specs.declared.held.Held.{Held}
 use Rattle.gr_broker_relay.specs.Held.{held_view}
 use Rattle.gr_broker_relay.proofs.Placing.{as_many_places, branch_at, edges_at}
 use Rattle.gr_broker.specs.declared.outcome.BrokerFault.TheVariants as refused
-use Rattle.gr_broker.specs.Opened.{LosesNothing}
-use Rattle.gr_broker.proofs.Opening.{next_unset, touches_more, touches_all, damaged_at, started_next, opened_next, faultless_on, err_is}
+use Rattle.gr_broker.proofs.Using.{faultless_on}
+use Rattle.gr_broker.proofs.Opening.{next_unset, none_stopped, touches_more, touches_all, damaged_at, started_next, opened_next, err_is}
 use Rattle.gr_broker.proofs.starting.open_publishers.Goals as goal
 
 pub index-requires : goal.index-requires
@@ -36,7 +35,7 @@ returns-in-Err-clause-touches g c = λ tells.
     let after = g.D.Disk.lane_of c.open_publisher.new.disk in
     let one = c.in-Err.ensures in
     touches_all t c.args.b (c.publishers.p + 1) before mid after (length t.publishers) (omega (arith, c.publishers-test.true, c.publishers-p-end.ensures.count))
-    (touches_more t c.args.b c.publishers.p before mid after (c.publishers.invariant.touches tells) (one.others tells) (λ below k. ap (λ d. g.D.Disk.lane_of d k) (one.below below)) (λ here. subst (λ (x : List ℕ). LosesNothing x (mid (2 * c.publishers.p)) (after (2 * c.publishers.p))) c.requires.late (one.any_moment tells here)))
+    (touches_more t c.args.b c.publishers.p before mid after (c.publishers.invariant.touches tells) (one.others tells) (λ below k. ap (λ d. g.D.Disk.lane_of d k) (one.below below)) (one.any_moment tells))
 
 pub returns-in-Err-clause-damaged : goal.returns-in-Err-clause-damaged
 returns-in-Err-clause-damaged g c = λ tells p at e.
@@ -44,22 +43,42 @@ returns-in-Err-clause-damaged g c = λ tells p at e.
     let one = c.in-Err.ensures.damaged tells p at (ap (λ f. Err f) (err_is c.in-Err.fault (refused.Damaged p at) e)) in
     let sofar = c.publishers.invariant in
     damaged_at t c.args.b c.publishers.p p at (map held_view c.publishers.held.items) (map (λ (held : Held). held.log) c.publishers.held.items) c.publishers.lines
-    (g.D.Disk.lane_of c.args.disk.now) (g.D.Disk.lane_of c.publishers.disk) (omega (arith, c.publishers-test.true, c.publishers-p-end.ensures.count)) sofar.started (sofar.opens tells) (sofar.touches tells) one.0 one.1
-    (subst (λ (x : List ℕ). log_text x (content (g.D.Disk.lane_of c.publishers.disk (2 * c.publishers.p))) ≡ Err at) c.requires.late one.2)
+    (g.D.Disk.lane_of c.args.disk.now) (g.D.Disk.lane_of c.publishers.disk) (omega (arith, c.publishers-test.true, c.publishers-p-end.ensures.count)) sofar.started (sofar.opens tells) (sofar.touches tells) one.0 one.1 one.2
 
 pub returns-in-Err-clause-damaged_here : goal.returns-in-Err-clause-damaged_here
 returns-in-Err-clause-damaged_here g c = λ p at e.
     let one = c.in-Err.ensures.damaged_here p at (ap (λ f. Err f) (err_is c.in-Err.fault (refused.Damaged p at) e)) in
     (omega (arith, one.0, c.publishers-test.true, c.publishers-p-end.ensures.count), rw one.0 one.1)
 
+-- the disk failed at the publisher that was to be opened
+
+pub returns-in-Err-clause-why : goal.returns-in-Err-clause-why
+returns-in-Err-clause-why g c = λ tells e.
+    ⊎_elim (λ s. inl (c.publishers.p, s)) (λ r. inr (subst (λ (n : ℕ). Rose n (g.D.Disk.faults c.open_publisher.new.disk)) c.publishers.invariant.faults r))
+    (c.in-Err.ensures.why tells (ap (λ f. Err f) (err_is c.in-Err.fault refused.Disk e)))
+
+-- on whose lanes no stop was ordered
+
+pub returns-in-Err-clause-rises : goal.returns-in-Err-clause-rises
+returns-in-Err-clause-rises g c = λ tells none e.
+    let t = c.args.topo.now in
+    let mid = g.D.Disk.lane_of c.publishers.disk in
+    let one = c.in-Err.ensures in
+    let here = one.disk_here (ap (λ f. Err f) (err_is c.in-Err.fault refused.Disk e)) in
+    let unset = next_unset t c.args.b c.publishers.p (g.D.Disk.lane_of c.args.disk.now) mid mid (c.publishers.invariant.touches tells) none (omega (arith, c.publishers-test.true, c.publishers-p-end.ensures.count)) here in
+    ⊎_elim (λ s. absurd (none_stopped (lanes_at (g.D.Disk.lane_of c.open_publisher.new.disk) (2 * c.publishers.p)) (one.unset tells unset) s))
+    (λ r. subst (λ (n : ℕ). Rose n (g.D.Disk.faults c.open_publisher.new.disk)) c.publishers.invariant.faults r)
+    (one.why tells (ap (λ f. Err f) (err_is c.in-Err.fault refused.Disk e)))
+
 pub returns-in-Err-clause-never_fails : goal.returns-in-Err-clause-never_fails
 returns-in-Err-clause-never_fails g c = λ tells faultless none e.
     let t = c.args.topo.now in
     let mid = g.D.Disk.lane_of c.publishers.disk in
-    let sofar = c.publishers.invariant in
-    c.in-Err.ensures.never_fails tells (sofar.faultless.stays faultless)
-    (λ here. next_unset t c.args.b c.publishers.p (g.D.Disk.lane_of c.args.disk.now) mid mid (sofar.touches tells) none (omega (arith, c.publishers-test.true, c.publishers-p-end.ensures.count)) here)
-    (ap (λ f. Err f) (err_is c.in-Err.fault refused.Disk e))
+    let one = c.in-Err.ensures in
+    let here = one.disk_here (ap (λ f. Err f) (err_is c.in-Err.fault refused.Disk e)) in
+    let unset = next_unset t c.args.b c.publishers.p (g.D.Disk.lane_of c.args.disk.now) mid mid (c.publishers.invariant.touches tells) none (omega (arith, c.publishers-test.true, c.publishers-p-end.ensures.count)) here in
+    none_stopped (lanes_at (g.D.Disk.lane_of c.open_publisher.new.disk) (2 * c.publishers.p)) (one.unset tells unset)
+    (one.by_stop tells (c.publishers.invariant.faultless.stays faultless) (ap (λ f. Err f) (err_is c.in-Err.fault refused.Disk e)))
 
 pub returns-in-Err-push-clause-tally : goal.returns-in-Err-push-clause-tally
 returns-in-Err-push-clause-tally g c =
@@ -82,7 +101,7 @@ returns-in-Err-push-clause-touches g c = λ tells.
     let after = g.D.Disk.lane_of c.open_publisher.new.disk in
     let one = c.in-Ok.ensures in
     touches_all t c.args.b (c.publishers.p + 1) before mid after (length t.publishers) (omega (arith, c.publishers-test.true, c.publishers-p-end.ensures.count))
-    (touches_more t c.args.b c.publishers.p before mid after (c.publishers.invariant.touches tells) (one.others tells) (λ below k. ap (λ d. g.D.Disk.lane_of d k) (one.below below)) (λ here. subst (λ (x : List ℕ). LosesNothing x (mid (2 * c.publishers.p)) (after (2 * c.publishers.p))) c.requires.late (one.any_moment tells here)))
+    (touches_more t c.args.b c.publishers.p before mid after (c.publishers.invariant.touches tells) (one.others tells) (λ below k. ap (λ d. g.D.Disk.lane_of d k) (one.below below)) (one.any_moment tells))
 
 pub publishers-preserved : goal.publishers-preserved
 publishers-preserved g c =
@@ -97,11 +116,17 @@ publishers-preserved g c =
     let new = c.push.new.self.items in
     record {
       started = started_next t c.args.b p old new c.in-Ok.opened c.in-Ok-push.ensures.items c.publishers.lines c.open_publisher.new.into one.lines sofar.started one.started;
-      opens = λ tells. opened_next t c.args.b p old new c.in-Ok.opened c.in-Ok-push.ensures.items before mid after sofar.started.as_many (sofar.opens tells) (sofar.touches tells) (one.others tells)
-          (λ m e. subst (λ (x : List ℕ). Opens x (mid (2 * p)) (after (2 * p)) (Ok m)) c.requires.late (one.opens tells m e));
-      touches = λ tells. touches_more t c.args.b p before mid after (sofar.touches tells) (one.others tells) (λ below k. ap (λ d. g.D.Disk.lane_of d k) (one.below below)) (λ here. subst (λ (x : List ℕ). LosesNothing x (mid (2 * p)) (after (2 * p))) c.requires.late (one.any_moment tells here));
+      opens = λ tells. opened_next t c.args.b p old new c.in-Ok.opened c.in-Ok-push.ensures.items before mid after sofar.started.as_many (sofar.opens tells) (sofar.touches tells) (one.others tells) (one.opens tells);
+      touches = λ tells. touches_more t c.args.b p before mid after (sofar.touches tells) (one.others tells) (λ below k. ap (λ d. g.D.Disk.lane_of d k) (one.below below)) (one.any_moment tells);
       faults = (one.tally.same tt).0 ∙ sofar.faults;
       stops = (one.tally.same tt).1 ∙ sofar.stops;
       faultless = faultless_on (g.D.Disk.faultless c.args.disk.now) (g.D.Disk.faultless c.publishers.disk) (g.D.Disk.faultless c.open_publisher.new.disk)
           (g.D.Disk.faults c.args.disk.now) (g.D.Disk.faults c.publishers.disk) (g.D.Disk.faults c.open_publisher.new.disk) sofar.faultless one.faultless;
     }
+
+pub returns-clause-touches : goal.returns-clause-touches
+returns-clause-touches g c = λ tells.
+    let t = c.args.topo.now in
+    let before = g.D.Disk.lane_of c.args.disk.now in
+    let after = g.D.Disk.lane_of c.publishers.disk in
+    touches_all t c.args.b c.publishers.p before after after (length t.publishers) (omega (arith, c.publishers.auto.p-end, c.publishers-p-end.ensures.count)) (c.publishers.invariant.touches tells)

@@ -1,10 +1,9 @@
 -- The part is put back into the broker
-use Rattle.std.proofs.Common.{◌≡◌, ◌≢◌, ◌⊎◌, ℕ, ◌*◌, ◌<◌, true, length, set, Option, Some, None, Result, sym, subst, arith}
+use Rattle.std.proofs.Common.{◌≡◌, ◌⊎◌, ℕ, ◌*◌, ◌<◌, true, length, set, Option, Some, None, Result, sym, subst, arith}
 use Rattle.std.specs.Prelude.{◌↔◌, is_some, IsSome, IfOk, OnOk, IsErrOf}
 use Rattle.gr_publog.specs.declared.record.LogFault.{LogFault}
 use Rattle.gr_publog.specs.declared.record.LogFault.TheVariants as fault
-use Rattle.gr_publog.specs.Crash.{LogView}
-use Rattle.gr_publog.specs.Calls.{IsReady}
+use Rattle.gr_publog.specs.Views.{LogView, lanes_at, AwayFrom, IsReady}
 use Rattle.gr_topo.specs.Topology.{TopologyView}
 use Rattle.gr_model.specs.Net.{is_host}
 use Rattle.gr_model.specs.NetOf.{net_of}
@@ -16,11 +15,11 @@ use Rattle.gr_broker_relay.specs.Told.{Tells}
 use Rattle.gr_broker.specs.Seen.{log_said, is_broken, broker_at}
 use Rattle.gr_broker.specs.Of.{IsBrokerOf, LogsStand}
 use Rattle.gr_broker.specs.Told.{log_answer}
-use Rattle.gr_broker.specs.Hosted.{wake_at, AppendsTwice, WakeLeaves}
+use Rattle.gr_broker.specs.Hosted.{wake_at, Wakes, WakeLeaves}
 use Rattle.gr_broker.specs.Keeps.{UsesLane}
-use Rattle.gr_broker.specs.Parts.{PartView, part_of, part_in, part_wake, part_mark_logs, part_cut_logs, part_marked, part_woken, part_failed}
+use Rattle.gr_broker.specs.Parts.{PartView, part_of, part_in, part_wake, part_mark_logs, part_cut, part_marked, part_woken, part_failed}
 use Rattle.gr_broker.proofs.Joined.{Beside}
-use Rattle.gr_broker.proofs.Woken.{moved, seen_part, seen_put, log_seen, broker_leaves, broker_fits, broker_stands, ok_of, on_ok_of, reopen_of, twice_at}
+use Rattle.gr_broker.proofs.Woken.{moved, seen_part, seen_put, log_seen, broker_leaves, broker_fits, broker_stands, ok_of, on_ok_of, reopen_of, wakes_at}
 use Rattle.gr_broker.proofs.waking.wake.Given.{Over}
 use Rattle.gr_broker.proofs.waking.wake.Goals as goal
 
@@ -46,14 +45,14 @@ pub wake_part-answer-requires-clause-lanes : goal.wake_part-answer-requires-clau
 wake_part-answer-requires-clause-lanes g c = back g c (λ t q n y. (l : LogView) → y.log ≡ Some l → l.lane ≡ 2 * q) (c.requires.fits.lanes c.args.p)
 
 pub wake_part-answer-requires-clause-late : goal.wake_part-answer-requires-clause-late
-wake_part-answer-requires-clause-late g c = back g c (λ t q n y. (l : LogView) → y.log ≡ Some l → l.late ≡ t.late) (c.requires.fits.late c.args.p)
+wake_part-answer-requires-clause-late g c = back g c (λ t q n y. (l : LogView) → y.log ≡ Some l → l.state.late ≡ t.late) (c.requires.fits.late c.args.p)
 
 pub wake_part-answer-requires-clause-joined : goal.wake_part-answer-requires-clause-joined
 wake_part-answer-requires-clause-joined g c = back g c (λ t q n y. Beside y.view y.log) (c.requires.fits.joined c.args.p)
 
 pub wake_part-answer-requires-clause-stands : goal.wake_part-answer-requires-clause-stands
 wake_part-answer-requires-clause-stands g c = λ tells.
-    back g c (λ t q n y. (l : LogView) → y.log ≡ Some l → IsReady l (g.D.Disk.lane_of c.args.disk.now (2 * q))) (c.requires.stands tells c.args.p)
+    back g c (λ t q n y. (l : LogView) → y.log ≡ Some l → IsReady l (lanes_at (g.D.Disk.lane_of c.args.disk.now) (2 * q))) (c.requires.stands tells c.args.p)
 
 -- After it: what holds of the part and its answer holds of the broker
 
@@ -95,19 +94,19 @@ returns-clause-fits g c =
     (there g c (λ t q n y a. IsKept (net_of t) q n (held_view c.wake_part-answer.new.part)) c.wake_part-answer.ensures.kept)
     (there g c (λ t q n y a. is_some c.wake_part-answer.new.part.log ≡ is_some y.log) c.wake_part-answer.ensures.hosted)
     (there g c (λ t q n y a. (l : LogView) → c.wake_part-answer.new.part.log ≡ Some l → l.lane ≡ 2 * q) c.wake_part-answer.ensures.lanes)
-    (there g c (λ t q n y a. (l : LogView) → c.wake_part-answer.new.part.log ≡ Some l → l.late ≡ t.late) c.wake_part-answer.ensures.late)
+    (there g c (λ t q n y a. (l : LogView) → c.wake_part-answer.new.part.log ≡ Some l → l.state.late ≡ t.late) c.wake_part-answer.ensures.late)
     c.wake_part-answer.ensures.joined)
 
 pub returns-clause-lane : goal.returns-clause-lane
 returns-clause-lane g c = λ tells.
-    twice_at (broker_at c.args.seat.now c.args.held.now.items) c.args.p _ _ (g.D.Disk.lane_of c.args.disk.now) (g.D.Disk.lane_of c.wake_part-answer.new.disk) (log_answer c.answer_at.result)
-    (there g c (λ t q n y a. (l : LogView) → y.log ≡ Some l → AppendsTwice l (part_mark_logs t c.args.now y) (part_cut_logs t q n c.args.now y)
-    (g.D.Disk.lane_of c.args.disk.now (2 * q)) (g.D.Disk.lane_of c.wake_part-answer.new.disk (2 * q)) a) (c.wake_part-answer.ensures.lane tells))
+    wakes_at (broker_at c.args.seat.now c.args.held.now.items) c.args.p _ _ _ (g.D.Disk.lane_of c.args.disk.now) (g.D.Disk.lane_of c.wake_part-answer.new.disk) (log_answer c.answer_at.result)
+    (there g c (λ t q n y a. (l : LogView) → y.log ≡ Some l → Wakes l (part_mark_logs t c.args.now y) (part_cut t q n c.args.now y) t.settings.reclaim
+    (lanes_at (g.D.Disk.lane_of c.args.disk.now) (2 * q)) (lanes_at (g.D.Disk.lane_of c.wake_part-answer.new.disk) (2 * q)) a) (c.wake_part-answer.ensures.lane tells))
 
 pub returns-clause-reopen : goal.returns-clause-reopen
 returns-clause-reopen g c =
     let same = reopen_of c.answer_at.result in
-    let k = there g c (λ t q n y a. IsErrOf a fault.Reopen ↔ ((is_broken y.log ≡ true) × (IsSome (part_mark_logs t c.args.now y) ⊎ IsSome (part_cut_logs t q n c.args.now y)))) c.wake_part-answer.ensures.reopen in
+    let k = there g c (λ t q n y a. IsErrOf a fault.Reopen ↔ ((is_broken y.log ≡ true) × (IsSome (part_mark_logs t c.args.now y) ⊎ IsSome (part_cut t q n c.args.now y)))) c.wake_part-answer.ensures.reopen in
     (λ h. k.0 (same.0 h), λ h. same.1 (k.1 h))
 
 pub returns-clause-below : goal.returns-clause-below
@@ -121,5 +120,5 @@ pub returns-clause-stands : goal.returns-clause-stands
 returns-clause-stands g c = λ tells.
     subst (LogsStand (g.D.Disk.lane_of c.wake_part-answer.new.disk)) (seen_put c.args.seat.now c.args.held.now.items c.args.p c.wake_part-answer.new.part)
     (broker_stands (broker_at c.args.seat.now c.args.held.now.items) c.args.p (within g c) (g.D.Disk.lane_of c.args.disk.now) (g.D.Disk.lane_of c.wake_part-answer.new.disk) (part_of c.wake_part-answer.new.part) (c.requires.stands tells)
-    (there g c (λ t q n y a. (l : LogView) → c.wake_part-answer.new.part.log ≡ Some l → IsReady l (g.D.Disk.lane_of c.wake_part-answer.new.disk (2 * q))) (c.wake_part-answer.ensures.stands tells))
-    (there g c (λ t q n y a. (k : ℕ) → k ≢ 2 * q → g.D.Disk.lane_of c.wake_part-answer.new.disk k ≡ g.D.Disk.lane_of c.args.disk.now k) (c.wake_part-answer.ensures.uses.others tells)))
+    (there g c (λ t q n y a. (l : LogView) → c.wake_part-answer.new.part.log ≡ Some l → IsReady l (lanes_at (g.D.Disk.lane_of c.wake_part-answer.new.disk) (2 * q))) (c.wake_part-answer.ensures.stands tells))
+    (there g c (λ t q n y a. (k : ℕ) → AwayFrom (2 * q) k → g.D.Disk.lane_of c.wake_part-answer.new.disk k ≡ g.D.Disk.lane_of c.args.disk.now k) (c.wake_part-answer.ensures.uses.others tells)))

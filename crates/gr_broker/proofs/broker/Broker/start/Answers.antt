@@ -1,5 +1,5 @@
-use Rattle.std.proofs.Common.{ℕ, ◌*◌, List, Err, refl, sym, ap, subst, map}
-use Rattle.gr_publog.specs.Crash.{Stands}
+use Rattle.std.proofs.Common.{◌*◌, Err, refl, ap, map}
+use Rattle.gr_publog.specs.Views.{lanes_at}
 use Rattle.gr_broker_relay.specs.declared.held.Held.{Held}
 use Rattle.gr_broker_relay.specs.Held.{held_view, seen_branch}
 use Rattle.gr_broker.specs.declared.outcome.BrokerFault.TheVariants as refused
@@ -7,15 +7,15 @@ use Rattle.gr_broker.proofs.Opening.{loses_nothing, err_is, starts_over, opens_l
 use Rattle.gr_broker.proofs.broker.Broker.start.Goals as goal
 
 pub returns-in-Err-clause-any_moment : goal.returns-in-Err-clause-any_moment
-returns-in-Err-clause-any_moment g c = λ tells p j here. let lane = g.D.Disk.lane_of c.args.disk.now (2 * p) in loses_nothing c.args.topo.now.late lane lane refl
+returns-in-Err-clause-any_moment g c = λ tells p j here. let ls = lanes_at (g.D.Disk.lane_of c.args.disk.now) (2 * p) in loses_nothing c.args.topo.now.late ls ls refl
 
 pub returns-in-Err-positions_at-clause-any_moment :
     goal.returns-in-Err-positions_at-clause-any_moment
-returns-in-Err-positions_at-clause-any_moment g c = λ tells p j here. let lane = g.D.Disk.lane_of c.args.disk.now (2 * p) in loses_nothing c.args.topo.now.late lane lane refl
+returns-in-Err-positions_at-clause-any_moment g c = λ tells p j here. let ls = lanes_at (g.D.Disk.lane_of c.args.disk.now) (2 * p) in loses_nothing c.args.topo.now.late ls ls refl
 
 pub returns-in-Err-lates-clause-any_moment :
     goal.returns-in-Err-lates-clause-any_moment
-returns-in-Err-lates-clause-any_moment g c = λ tells p j here. let lane = g.D.Disk.lane_of c.args.disk.now (2 * p) in loses_nothing c.args.topo.now.late lane lane refl
+returns-in-Err-lates-clause-any_moment g c = λ tells p j here. let ls = lanes_at (g.D.Disk.lane_of c.args.disk.now) (2 * p) in loses_nothing c.args.topo.now.late ls ls refl
 
 pub returns-in-Err-open_publishers-clause-damaged :
     goal.returns-in-Err-open_publishers-clause-damaged
@@ -45,11 +45,17 @@ returns-clause-opens g c = λ tells.
     one.started (one.opens tells) (one.touches tells)
 
 pub returns-clause-stands : goal.returns-clause-stands
-returns-clause-stands g c = λ tells p l e whole.
-    let late = (returns-clause-starts g c).fits.late p l e in
-    subst (λ (x : List ℕ). Stands (g.D.Disk.lane_of c.open_publishers.new.disk (2 * p)) x l.records) (sym late) (c.in-Ok-open_publishers.ensures.opens tells p l e).stands
+returns-clause-stands g c = λ tells p l e whole. (c.in-Ok-open_publishers.ensures.opens tells p l e).stands
 
 pub returns-in-Err-open_publishers-clause-never_fails :
     goal.returns-in-Err-open_publishers-clause-never_fails
 returns-in-Err-open_publishers-clause-never_fails g c = λ tells faultless none e.
     c.in-Err-open_publishers.ensures.never_fails tells faultless none (ap (λ f. Err f) (err_is c.in-Err-open_publishers.fault refused.Disk e))
+
+pub returns-in-Err-open_publishers-clause-why : goal.returns-in-Err-open_publishers-clause-why
+returns-in-Err-open_publishers-clause-why g c = λ tells e.
+    c.in-Err-open_publishers.ensures.why tells (ap (λ f. Err f) (err_is c.in-Err-open_publishers.fault refused.Disk e))
+
+pub returns-in-Err-open_publishers-clause-rises : goal.returns-in-Err-open_publishers-clause-rises
+returns-in-Err-open_publishers-clause-rises g c = λ tells none e.
+    c.in-Err-open_publishers.ensures.rises tells none (ap (λ f. Err f) (err_is c.in-Err-open_publishers.fault refused.Disk e))
