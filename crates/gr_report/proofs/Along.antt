@@ -1,4 +1,5 @@
--- Lists along numbers: two functions that agree on the numbers give one list, and the numbers that are left are one and those behind it
+-- Lists along numbers: two functions that agree on the numbers give one list, and the numbers that are left are one and
+-- those behind it
 use Rattle.std.proofs.Common.{◌≡◌, ℕ, zero, suc, ◌+◌, ◌-◌, ◌<◌, ◌≤◌, List, [], ◌∷◌, ◌++◌, map, get_or, refl, sym, ap, ◌∙◌, arith, add-one}
 use Rattle.std.specs.Prelude.{flat_map}
 use Rattle.gr_model.specs.Net.{numbers_from}

@@ -1,4 +1,5 @@
--- Frames between two brokers that an edge joins, whatever joins of late subscribers they have: this is all that their lines name
+-- Frames between two brokers that an edge joins, whatever joins of late subscribers they have: this is all that their
+-- lines name
 use Rattle.std.proofs.Common.{◌≡◌, ◌<◌, ℕ, List, [], ◌∷◌}
 use Rattle.gr_event.specs.Joins.{Joins}
 use Rattle.gr_frame.specs.declared.Frame.{Frame}

@@ -1,13 +1,14 @@
--- Each publisher's log stands at its host: a broker that has started has the logs of its publishers and no others. So what is done
--- to the lanes of one broker's publishers leaves those of all others alone.
-use Rattle.std.proofs.Common.{◌≡◌, ◌≢◌, inl, inr, ℕ, ◌*◌, ◌<◌, true, false, List, length, get_or, Option, Some, None, refl, sym, ap, ◌∙◌, arith}
+-- Each publisher's log stands at its host: a broker that has started has the logs of its publishers and no others. So
+-- what is done to the lanes of one broker's publishers leaves those of all others alone.
+use Rattle.std.proofs.Common.{◌≡◌, ◌≢◌, inl, inr, ℕ, suc, ◌*◌, ◌<◌, true, false, List, length, get_or, Option, Some, None, refl, sym, ap, ◌∙◌, arith}
 use Rattle.std.specs.Prelude.{is_some}
 use Rattle.std.proofs.lemmas.Bool.{cases_lt, false≢true, eqb-true, eq-eqb}
 use Rattle.std.proofs.lemmas.List.{get_or_past}
-use Rattle.gr_publog.specs.Crash.{LogView}
+use Rattle.gr_publog.specs.Views.{LogView, AwayFrom}
 use Rattle.gr_topo.specs.Topology.{TopologyView, host_of}
 use Rattle.gr_model.specs.Net.{is_host}
 use Rattle.gr_model.specs.NetOf.{net_of}
+use Rattle.gr_broker.specs.Lanes.{log_lane}
 use Rattle.gr_broker.specs.Seen.{BrokerView, log_in}
 use Rattle.gr_broker.specs.Of.{IsBrokerOf}
 
@@ -55,8 +56,16 @@ module _ (t : TopologyView) (b : ℕ) (v : BrokerView) (fits : IsBrokerOf t v) (
       go None e = refl
       go (Some l) e = absurd (n (log_hosted p l e).1)
 
--- publishers at two brokers have two lanes
-pub lanes_apart : (t : TopologyView) (p q b c : ℕ) → host_of t p ≡ b → host_of t q ≡ c → b ≢ c → 2 * p ≢ 2 * q
-lanes_apart t p q b c at there apart e =
-    let same : p ≡ q = omega (arith, e) in
-    apart (sym at ∙ ap (host_of t) same ∙ there)
+-- publishers have lanes of their own: the first of the one's two, and the second of them, are none of the other's
+pub own_lanes : (p q : ℕ) → p ≢ q → AwayFrom (log_lane q) (log_lane p) × AwayFrom (log_lane q) (suc (log_lane p))
+own_lanes p q apart = (
+  (λ e. apart (omega (arith, e)), λ e. absurd (omega (arith, e))),
+  (λ e. absurd (omega (arith, e)), λ e. apart (omega (arith, e))),
+)
+
+-- so have publishers at two brokers
+pub lanes_apart : (t : TopologyView) (p q b c : ℕ) → host_of t p ≡ b → host_of t q ≡ c → b ≢ c
+    → AwayFrom (log_lane q) (log_lane p) × AwayFrom (log_lane q) (suc (log_lane p))
+lanes_apart t p q b c at there apart =
+    let same : p ≢ q = λ e. apart (sym at ∙ ap (host_of t) e ∙ there) in
+    own_lanes p q same

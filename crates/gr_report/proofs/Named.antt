@@ -64,6 +64,7 @@ names_of t = record {
   lost = λ p number tick h. h;
   mark = λ p tick h. h;
   cut = λ p tick h. h;
+  reclaimed = λ p generation h. h;
   got = λ s p tick e i j. (i, j);
   horizon = λ s p tick i j. (i, j);
   sent = λ n f g. between_is_named t n f g;

@@ -1,6 +1,6 @@
--- What holds of every line that names what a tree of brokers has holds of each line that a step tells: its own numbers are in
--- range, and so are those of the frames that it sends, since each frame goes along an edge of the tree
-use Rattle.std.proofs.Common.{◌≡◌, ◌<◌, arith, ℕ, suc, zero, max, Bool, true, false, ◌&&◌, List, [], ◌∷◌, ◌++◌, map, length, set, refl, Option, Some, None}
+-- What holds of every line that names what a tree of brokers has holds of each line that a step tells: its own numbers
+-- are in range, and so are those of the frames that it sends, since each frame goes along an edge of the tree
+use Rattle.std.proofs.Common.{◌≡◌, ◌<◌, ◌-◌, arith, ℕ, suc, zero, max, Bool, true, false, ◌&&◌, List, [], ◌∷◌, ◌++◌, map, length, set, refl, Option, Some, None}
 use Rattle.std.specs.Prelude.{nat_eq, nat_le, nat_lt, if◌then◌else◌, flat_map, filter, get_or}
 use Rattle.std.specs.List.{list_any}
 use Rattle.std.proofs.lemmas.Bool.{eq-eqb, or_left, or_right}
@@ -20,7 +20,7 @@ use Rattle.gr_model.specs.declared.report.Report.TheVariants as line
 use Rattle.gr_model.specs.Net.{Net, is_host, keeps_horizon, numbers, not_empty, with_wants, wants_with}
 use Rattle.gr_model.specs.NetOf.{IsOrderly}
 use Rattle.gr_model.specs.Tree.{IsNet}
-use Rattle.gr_model.specs.Broker.{View, Log, Outcome, empty_log, is_kept, delivery_lines, got_line, learn, publish, marking, cutting, wake, wake_host, wake_below, asking, curiosity, expect, receive, drops, joining, place_of, seen, taking, view_joined, with_event, with_joins, max_tick}
+use Rattle.gr_model.specs.Broker.{View, Log, Outcome, empty_log, is_kept, delivery_lines, got_line, learn, publish, marking, cutting, cutting_lines, wake, wake_host, wake_below, asking, curiosity, expect, receive, drops, joining, place_of, seen, taking, view_joined, with_event, with_joins, max_tick}
 use Rattle.gr_model.specs.World.{World, Transition, view_of, log_of, absorbed, unchanged, followed_by, in_turn, sent_line, sent_lines, wake_for, wake_all, deliver_frame, frame_at, publish_now, join_now, restarted, crash, publish_stopped, deliver_up, wake_up, hand_down, sweep_for, sweep, sweep_moment, next, show, opened_lines, kept_events, frames_past, sent_since, is_want, is_know_to, outwards, inwards, numbers_down, deliver_frame_by, deliver_up_by, hand_down_by, next_by, join_now_by, publish_now_by, publish_stopped_by, sweep_by, sweep_for_by, wake_all_by, wake_for_by, wake_up_by}
 use Rattle.gr_model_calls.specs.Edges.{GoesBetween}
 use Rattle.gr_model_calls.specs.Fits.{StepIn}
@@ -46,6 +46,7 @@ pub record Names (net : Net) (N : Report → Type 0) : Type 0 where
   pub lost : (p number tick : ℕ) → p < net.publishers → N (line.Lost p number tick)
   pub mark : (p tick : ℕ) → p < net.publishers → N (line.Mark p tick)
   pub cut : (p tick : ℕ) → p < net.publishers → N (line.Cut p tick)
+  pub reclaimed : (p generation : ℕ) → p < net.publishers → N (line.Reclaimed p generation)
   pub got : (s p tick : ℕ) (e : Event) → s < net.subscribers → p < net.publishers → N (line.Got s p tick e)
   pub horizon : (s p tick : ℕ) → s < net.subscribers → p < net.publishers → N (line.Horizon s p tick)
   pub sent : (n : ℕ) (f : Frame) → IsBetween net f → N (sent_line n f)
@@ -74,6 +75,7 @@ names_with net wants N k = record {
   lost = k.lost;
   mark = k.mark;
   cut = k.cut;
+  reclaimed = k.reclaimed;
   got = k.got;
   horizon = k.horizon;
   sent = λ n f g. k.sent n f (between_with f g);
@@ -206,14 +208,25 @@ wake_named net N p b now v log k o j = go (is_host net p b)
     new : Log
     new = cutting net p b marked.view marked.log
 
-    front : (c d : Bool) → Each N ((if c then line.Mark p now ∷ [] else []) ++ (if d then line.Cut p new.cut ∷ [] else []))
-    front true true = (k.mark p now j, (k.cut p new.cut j, tt))
-    front true false = (k.mark p now j, tt)
-    front false true = (k.cut p new.cut j, tt)
-    front false false = tt
+    -- of a cut, whether the log was written anew or not
+    anew : (e : Bool) → Each N (if e then line.Reclaimed p new.generation ∷ [] else [])
+    anew true = (k.reclaimed p new.generation j, tt)
+    anew false = tt
+
+    cuts : (d e : Bool) → Each N (if d then line.Cut p new.cut ∷ (if e then line.Reclaimed p new.generation ∷ [] else []) else [])
+    cuts true e = (k.cut p new.cut j, anew e)
+    cuts false e = tt
+
+    marks : (c : Bool) → Each N (if c then line.Mark p now ∷ [] else [])
+    marks true = (k.mark p now j, tt)
+    marks false = tt
 
     go : (q : Bool) → Each N (let u : Outcome = elim q [ true ↦ wake_host net p b now v log | false ↦ wake_below net p b now v log ] in u.lines)
-    go true = Each-on N ((if nat_lt log.settled marked.log.settled then line.Mark p now ∷ [] else []) ++ (if nat_lt marked.log.cut new.cut then line.Cut p new.cut ∷ [] else [])) marked.lines (front (nat_lt log.settled marked.log.settled) (nat_lt marked.log.cut new.cut)) (marking_named net N p b now v log k o j)
+    go true =
+        let m : List Report = if nat_lt log.settled marked.log.settled then line.Mark p now ∷ [] else [] in
+        Each-on N (m ++ cutting_lines p marked.log new) marked.lines
+        (Each-on N m (cutting_lines p marked.log new) (marks (nat_lt log.settled marked.log.settled)) (cuts (nat_lt marked.log.cut new.cut) (nat_lt marked.log.generation new.generation)))
+        (marking_named net N p b now v log k o j)
     go false = tt
 
 -- What a call sends
@@ -382,7 +395,7 @@ crash_named net N w b k i = (k.crashed b i, opened_named net N w.logs b k)
 
 stopped_named : (net : Net) (N : Report → Type 0) (w : World) (k p number : ℕ) (stop : Stop) (e : Event) → Stands net N → AllBetween net w → p < net.publishers → Each N (publish_stopped net w k p number stop e).lines
 unfolding publish_stopped_by
-stopped_named net N w k p number stop e s a j = go (not_empty (net.subscribers_at (net.host p))) (nat_eq number (suc log.last) && nat_le tick max_tick) (is_kept log.gate stop.call stop.pick)
+stopped_named net N w k p number stop e s a j = go (not_empty (net.subscribers_at (net.host p))) (nat_eq number (suc log.last) && nat_le tick max_tick) (is_kept (log.size - 1) stop.call stop.pick)
   where
     log : Log
     log = log_of w p

@@ -1,5 +1,5 @@
--- What passes a broker: a wake where the publisher is not and a frame that comes leave the log, what is sent goes over edges, and what
--- went over an edge fits its receiver
+-- What passes a broker: a wake where the publisher is not and a frame that comes leave the log, what is sent goes over
+-- edges, and what went over an edge fits its receiver
 use Rattle.std.proofs.Common.{◌≡◌, ◌<◌, ℕ, Bool, true, false, ◌&&◌, List, [], ◌∷◌, Option, Some, None, Result, Ok, Err, refl, sym, ap, ap₂, ◌∙◌, subst}
 use Rattle.std.specs.Prelude.{◌↔◌, nat_eq, IsSome, is_some, IfOk}
 use Rattle.std.specs.List.{list_any}
@@ -50,7 +50,8 @@ tells_on o l (Err e) t = tt
 pub sent_with : (net : Net) (wants : ℕ → ℕ → ℕ → Event → Bool) (p b : ℕ) (js : Joins) (R : Frame → Type 0) → SentOn net p b js R → SentOn (with_wants net wants) p b js R
 sent_with net wants p b js R s = record { know = s.know; want = s.want; expect = s.expect }
 
--- each frame that a broker sends by what its view shows goes over an edge, where all joins that it holds are of late subscribers
+-- each frame that a broker sends by what its view shows goes over an edge, where all joins that it holds are of late
+-- subscribers
 pub seen_edges : (net : Net) (v : View) (p b : ℕ) → IsNet net → p < net.publishers → b < net.brokers → all_late net v.joins ≡ true → SentOn (seen net v) p b v.joins (GoesOverEdge net)
 seen_edges net v p b n j i late = sent_with net (wants_with net v.joins) p b v.joins (GoesOverEdge net) (over_edges net p b v.joins n j i late)
 

@@ -1,5 +1,5 @@
--- The steps of a topology are within what the theorems speak of: they name publishers and brokers that the machine has, and their
--- moments and events are within the limits of frames
+-- The steps of a topology are within what the theorems speak of: they name publishers and brokers that the machine has,
+-- and their moments and events are within the limits of frames
 use Rattle.std.proofs.Common.{List, [], ◌∷◌}
 use Rattle.gr_sched.specs.declared.step.Step.{Step}
 use Rattle.gr_sched.specs.declared.step.Step.TheVariants as step

@@ -7,8 +7,7 @@ use Rattle.gr_frame.specs.Cut.{AreFrames}
 use Rattle.gr_publog.specs.declared.record.Record.{Record}
 use Rattle.gr_publog.specs.declared.record.LogFault.{LogFault}
 use Rattle.gr_publog.specs.declared.record.LogFault.TheVariants as log_fault
-use Rattle.gr_publog.specs.Crash.{LogView}
-use Rattle.gr_out.specs.Lane.{Lane, has_stopped}
+use Rattle.gr_publog.specs.Views.{LogView}
 use Rattle.gr_out.specs.Stops.{StaysFaultless}
 use Rattle.gr_publog.specs.Calls.{Leaves, Tally, Causes}
 use Rattle.gr_model.specs.declared.report.Report.{Report}
@@ -17,9 +16,10 @@ use Rattle.gr_broker_relay.specs.declared.outcome.Outcome.{Outcome}
 use Rattle.gr_broker_relay.specs.Told.{Tells}
 use Rattle.gr_broker.specs.declared.outcome.BrokerFault.{BrokerFault}
 use Rattle.gr_broker.specs.declared.outcome.BrokerFault.TheVariants as refused
-use Rattle.gr_broker.specs.Seen.{BrokerView, log_in, with_view, with_log, with_logged, with_failed, is_broken, broken_at}
+use Rattle.gr_broker.specs.Seen.{BrokerView, log_in, with_view, with_log, with_logged, with_cut_if, with_failed, is_broken, broken_at}
 use Rattle.gr_broker.specs.Told.{log_answer}
 use Rattle.gr_broker.specs.Hosted.{WakeLeaves}
+use Rattle.gr_pubend.proofs.Cuts.{cut_stays}
 use Rattle.gr_world.specs.declared.fault.WorldFault.{WorldFault}
 use Rattle.gr_world.specs.declared.fault.WorldFault.TheVariants as fault
 use Rattle.gr_world.specs.Steps.{IsCarried}
@@ -139,6 +139,12 @@ whole_logged None r = refl
 whole_logged (Some l) None = refl
 whole_logged (Some l) (Some r) = refl
 
+-- and so it is with a cut
+pub whole_cut : (l : Option LogView) (cut : Option ℕ) (reclaim : ℕ) → is_broken (with_cut_if l cut reclaim) ≡ is_broken l
+whole_cut None cut reclaim = refl
+whole_cut (Some l) None reclaim = refl
+whole_cut (Some l) (Some tick) reclaim = (cut_stays reclaim tick l).1
+
 -- so is one that is exchanged for it
 pub whole_with : (p : ℕ) (b : BrokerView) (l : Option LogView) (v : View) → p < length b.logs → is_broken l ≡ is_broken (log_in b p) → is_broken (log_in b p) ≡ false → is_broken (log_in (with_view (with_log b p l) p v) p) ≡ false
 whole_with p b l v lt same whole = ap is_broken (get_or-set_same b.logs p l None lt) ∙ (same ∙ whole)
@@ -152,6 +158,11 @@ pub logged_none : (l : Option LogView) → with_logged l None ≡ l
 logged_none None = refl
 logged_none (Some l) = refl
 
+-- and with no cut
+pub cut_none : (l : Option LogView) (reclaim : ℕ) → with_cut_if l None reclaim ≡ l
+cut_none None reclaim = refl
+cut_none (Some l) reclaim = refl
+
 -- so is one that is exchanged for itself
 pub log_same : (p : ℕ) (b : BrokerView) (l : Option LogView) (v : View) → p < length b.logs → l ≡ log_in b p → log_in (with_view (with_log b p l) p v) p ≡ log_in b p
 log_same p b l v lt same = get_or-set_same b.logs p l None lt ∙ same
@@ -162,14 +173,22 @@ failed_same p b lt broken = get_or-set_same b.logs p (with_failed (log_in b p)) 
   where
     go : (o : Option LogView) → is_broken o ≡ true → with_failed o ≡ o
     go None k = refl
-    go (Some l) k = ap (λ (q : Bool). Some (record { lane = l.lane; records = l.records; broken = q; late = l.late })) (sym k)
+    go (Some l) k = ap (λ (q : Bool). let v : LogView = record {
+      lane = l.lane;
+      state = l.state;
+      broken = q;
+      second = l.second;
+      generation = l.generation;
+      size = l.size;
+      aside = l.aside;
+    } in Some v) (sym k)
 
--- What a call does to the disk, by what the broker says of it: where no stop is ordered on the lane none has broken it
-pub ran_on : (faultless faultless' : Type 0) (faults stops faults' stops' : ℕ) (lane : Lane) (answer : Result Outcome BrokerFault) (result : Result (List Report) WorldFault)
-    → Follows answer result → Tally faults stops faults' stops' (log_answer answer) → Causes faultless lane faults faults' (log_answer answer)
-    → StaysFaultless faultless faultless' faults faults' → (has_stopped lane.stop ≡ true → ⊥)
+-- What a call does to the disk, by what the broker says of it: where no stop is ordered on the lanes none has broken it
+pub ran_on : (faultless faultless' : Type 0) (faults stops faults' stops' : ℕ) (stopped : Bool) (answer : Result Outcome BrokerFault) (result : Result (List Report) WorldFault)
+    → Follows answer result → Tally faults stops faults' stops' (log_answer answer) → Causes faultless stopped faults faults' (log_answer answer)
+    → StaysFaultless faultless faultless' faults faults' → (stopped ≡ true → ⊥)
     → UsesDisk faultless faultless' faults stops faults' stops' result
-ran_on faultless faultless' faults stops faults' stops' lane answer result f tally causes stays never = record {
+ran_on faultless faultless' faults stops faults' stops' stopped answer result f tally causes stays never = record {
   counts = counts_follow answer result faults stops faults' stops' f tally;
   faultless_stays = stays;
   never_fails = λ less e. never (causes.by_stop less (disk_follows answer result f e));

@@ -4,7 +4,7 @@ use Rattle.std.specs.Prelude.{◌↔◌, nat_eq, IsSome, is_some, IsErr, IsErrOf
 use Rattle.std.specs.List.{list_any}
 use Rattle.std.proofs.lemmas.Bool.{cases_eq, or_cases, eqb-true, le-leb, false≢true}
 use Rattle.std.proofs.lemmas.List.{length-map}
-use Rattle.gr_publog.specs.Crash.{LogView}
+use Rattle.gr_publog.specs.Views.{LogView}
 use Rattle.gr_pubend.specs.Answers.{quieted, mark_of}
 use Rattle.gr_topo.specs.Topology.{TopologyView, host_of}
 use Rattle.gr_model.specs.declared.report.Report.{Report}
@@ -14,8 +14,8 @@ use Rattle.gr_model.specs.Broker.{View, Log, Outcome as MachineOutcome, seen, ma
 use Rattle.gr_model.specs.World.{World, log_of, inwards, sweep_moment, greatest_settled}
 use Rattle.gr_model_theorems.proofs.sweep.Rounds.{stands_inwards}
 use Rattle.gr_model_theorems.proofs.records.Recorded.{get_map}
+use Rattle.gr_broker_relay.specs.Cuts.{tick_cut}
 use Rattle.gr_broker.specs.Seen.{BrokerView, view_in, log_in, log_said, is_broken}
-use Rattle.gr_broker.specs.Hosted.{cut_logs}
 use Rattle.gr_world.specs.declared.fault.WorldFault.{WorldFault}
 use Rattle.gr_world.specs.declared.fault.WorldFault.TheVariants as fault
 use Rattle.gr_world.specs.Seen.{WorldView, broker_in, log_at, net_in, world_of}
@@ -71,7 +71,7 @@ as_before_next b p q a old new n t x = record { view = t.views q n ∙ x.view; l
 abbrev Bars : TopologyView → ℕ → ℕ → ℕ → View → Option LogView → Type 0
 Bars t n now p v l =
     (is_broken l ≡ true)
-    × (IsSome (mark_of (quieted (log_said l) now t.settings.quiet)) ⊎ IsSome (let o : MachineOutcome = marking (seen (net_of t) v) p n now v (log_said l) in cut_logs (net_of t) p n o.view o.log))
+    × (IsSome (mark_of (quieted (log_said l) now t.settings.quiet)) ⊎ IsSome (let o : MachineOutcome = marking (seen (net_of t) v) p n now v (log_said l) in tick_cut (net_of t) p n o.view o.log))
 
 bars_moved : (p : ℕ) (t t' : TopologyView) (n n' now now' : ℕ) (v v' : View) (l l' : Option LogView) → t ≡ t' → n ≡ n' → now ≡ now' → v ≡ v' → l ≡ l' → Bars t n now p v l → Bars t' n' now' p v' l'
 bars_moved p t t' n n' now now' v v' l l' e1 e2 e3 e4 e5 h =

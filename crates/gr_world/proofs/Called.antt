@@ -1,17 +1,18 @@
 -- A broker's call within a step, in the words of a world: what is left is a world still, and the machine's
-use Rattle.std.proofs.Common.{◌≡◌, ◌⊎◌, inl, inr, ℕ, ◌*◌, ◌<◌, ◌≤◌, true, false, List, length, map, get_or, set, Some, None, Result, Ok, Err, OnOk, sym, ap, ap₂, ◌∙◌, subst}
+use Rattle.std.proofs.Common.{◌≡◌, ◌⊎◌, inl, inr, ℕ, ◌<◌, ◌≤◌, true, false, List, length, map, get_or, set, Some, None, Result, Ok, Err, OnOk, sym, ap, ap₂, ◌∙◌, subst}
 use Rattle.std.specs.List.{AllByRecursion}
 use Rattle.std.proofs.lemmas.Bool.{cases_lt, true≢false}
 use Rattle.std.proofs.lemmas.List.{get_or_past, get_or_default, set-get_or}
 use Rattle.gr_frame.specs.Bytes.{frame_bytes}
 use Rattle.gr_frame.specs.Cut.{AreFrames}
-use Rattle.gr_out.specs.Lane.{Lane, has_stopped}
-use Rattle.gr_publog.specs.Crash.{LogView}
+use Rattle.gr_out.specs.Lane.{Lane}
+use Rattle.gr_publog.specs.Views.{LogView, lanes_at}
 use Rattle.gr_model.specs.declared.report.Report.{Report}
 use Rattle.gr_model.specs.Tree.{IsNet}
 use Rattle.gr_model.specs.Broker.{Outcome as MachineOutcome}
 use Rattle.gr_model.specs.World.{absorbed}
 use Rattle.gr_model_calls.specs.Edges.{GoesOverEdge}
+use Rattle.gr_broker.specs.Lanes.{log_lane, either_stopped}
 use Rattle.gr_broker.specs.Seen.{BrokerView, log_in, log_said, is_broken}
 use Rattle.gr_broker.specs.Of.{IsBrokerOf, LogsStand}
 use Rattle.gr_world.specs.declared.fault.WorldFault.{WorldFault}
@@ -136,9 +137,9 @@ module _ (v w : WorldView) (b p : ℕ) (x : BrokerView) (s : Site v w b p x) whe
   site_ran o after frames result c =
       subst (λ (u : WorldView). Ran u (put_in v b after frames) result) s.same (called_ran v b p o after frames result site_fits s.broker site_publisher c)
 
-  -- where the lanes fit what it leaves, no stop has broken a call on that of the publisher
+  -- where the lanes fit what it leaves, no stop has broken a call on those of the publisher
   pub site_unstopped : (after : BrokerView) (frames : List (List ℕ)) (result : Result (List Report) WorldFault) (lanes : ℕ → Lane) → IsNet (net_in v) → Ran w (put_in v b after frames) result → LanesFit lanes (put_in v b after frames)
-      → has_stopped (lanes (2 * p)).stop ≡ true → ⊥
+      → either_stopped (lanes_at lanes (log_lane p)) ≡ true → ⊥
   site_unstopped after frames result lanes n ran fit =
       let o : IsOpen v = subst IsOpen (sym s.same) s.is_open in
       never_stopped (put_in v b after frames) lanes p ran.fits (record { up = o.up; unspent = o.unspent }) fit site_publisher (n.host_in p site_publisher)

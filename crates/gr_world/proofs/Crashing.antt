@@ -1,36 +1,36 @@
 -- A crash over lanes that fit finds each log as it was, so it is the machine's; one that is refused has changed nothing.
-use Rattle.std.proofs.Common.{◌≡◌, ◌≢◌, ◌⊎◌, inl, inr, ℕ, ◌*◌, ◌<◌, Bool, true, false, List, [], ◌∷◌, length, map, Option, Some, None, Result, Ok, Err, sym, ap, ap₂, ◌∙◌, subst, arith}
+use Rattle.std.proofs.Common.{◌≡◌, ◌≢◌, ◌⊎◌, inl, inr, ℕ, ◌<◌, Bool, true, false, List, [], ◌∷◌, length, map, Option, Some, None, Result, Ok, Err, refl, sym, ap, ap₂, ◌∙◌, subst, arith}
 use Rattle.std.specs.Prelude.{IfOk}
 use Rattle.std.proofs.lemmas.Bool.{cases_eq, false≢true}
-use Rattle.gr_out.specs.declared.disk.Stop.{Stop}
-use Rattle.gr_out.specs.declared.disk.Stop.TheVariants.{Unset, Stopped}
-use Rattle.gr_out.specs.Lane.{Lane, content, crash_image, picked_after}
-use Rattle.gr_publog.specs.Text.{IsSpelled, log_text}
-use Rattle.gr_publog.specs.Crash.{LogView}
-use Rattle.gr_publog.proofs.Reading.{reads_spelled}
-use Rattle.gr_pubend.specs.Log.{Log, log_of}
+use Rattle.gr_out.specs.Lane.{Lane, crash_image}
+use Rattle.gr_out.proofs.Images.{image_left}
+use Rattle.gr_publog.specs.Lanes.{Found, lanes_text}
+use Rattle.gr_publog.specs.Views.{LogView, Lanes, lanes_at, found_of, StandsFound, Stands}
+use Rattle.gr_publog.specs.Opens.{view_of}
+use Rattle.gr_pubend.specs.Log.{Log, said}
 use Rattle.gr_sched.specs.declared.step.Step.TheVariants as step
 use Rattle.gr_topo.specs.Topology.{TopologyView, host_of, subscribers_of, not_empty}
 use Rattle.gr_model.specs.declared.report.Report.{Report}
 use Rattle.gr_model.specs.declared.report.Report.TheVariants as line
 use Rattle.gr_model.specs.Net.{numbers}
 use Rattle.gr_model.specs.World.{World, Transition, restarted, opened_lines, unchanged, crash, next, next_by}
+use Rattle.gr_broker.specs.Lanes.{log_lane}
 use Rattle.gr_broker.specs.Seen.{log_in, log_said}
 use Rattle.gr_world.specs.declared.fault.WorldFault.{WorldFault}
 use Rattle.gr_world.specs.declared.fault.WorldFault.TheVariants as fault
 use Rattle.gr_world.specs.Seen.{WorldView, broker_in, log_at, world_of, net_in}
 use Rattle.gr_world.specs.Of.{IsWorld, LaneFits, LanesFit, IsSound}
-use Rattle.gr_world.specs.Opened.{IsRead, IsSoundBut, Crashes, with_logs, restart_over}
+use Rattle.gr_world.specs.Opened.{IsRead, IsLeft, IsSoundBut, Crashes, with_logs, restart_over}
 use Rattle.gr_world.specs.Steps.{Makes, Does, IsCarried}
 use Rattle.gr_world.specs.Disk.{NotDisk, StaysSound}
 use Rattle.gr_world.specs.Ran.{noted_in}
 use Rattle.gr_report.proofs.Hosts.{hosted_log}
 use Rattle.gr_report.proofs.Along.{map_same}
-use Rattle.gr_report.proofs.Readable.{reads_same}
+use Rattle.gr_report.proofs.Readable.{found_same}
 
 -- Where no other broker is down, the lanes of all others fit their logs
 pub others_fit : (w : WorldView) (b : ℕ) (lanes : ℕ → Lane) → LanesFit lanes w → w.spent ≡ false → (w.down ≡ None) ⊎ (w.down ≡ Some b)
-    → (p : ℕ) (l : LogView) → p < length w.topo.publishers → host_of w.topo p ≢ b → log_at w p ≡ Some l → LaneFits l (lanes (2 * p))
+    → (p : ℕ) (l : LogView) → p < length w.topo.publishers → host_of w.topo p ≢ b → log_at w p ≡ Some l → LaneFits l (lanes_at lanes (log_lane p))
 others_fit w b lanes fit unspent down p l i n e = fit.logs unspent p l i (up down) e
   where
     none_is : (c : ℕ) → ◌≡◌ {A = Option ℕ} None (Some c) → ⊥
@@ -45,30 +45,33 @@ others_fit w b lanes fit unspent down p l i n e = fit.logs unspent p l i (up dow
 
 -- The logs after a crash
 
--- a lane without a stop is left as it reads
-image_read : (lane : Lane) → lane.stop ≡ Unset → crash_image lane ≡ content lane
-image_read lane unset = ap picked unset
-  where
-    picked : Stop → List ℕ
-    picked s = elim s [ Stopped pick ↦ picked_after pick lane.start lane.calls | _ ↦ content lane ]
+-- what is said of a log that is opened over what stands for it
+said_view : (lane : ℕ) (a b : List ℕ) (l : LogView) → said (view_of lane a b (found_of l)) ≡ said l
+said_view lane a b l = refl
 
--- a log that reads the same says the same
-said_same : (late : List ℕ) (o : Option LogView) (l : LogView) (bytes : List ℕ) → IsRead late o bytes → log_text late bytes ≡ Ok l.records → log_said o ≡ log_of l.records
-said_same late None l bytes read e = absurd read
-said_same late (Some m) l bytes read e = ap log_of (reads_same late bytes m.records l.records read e)
+-- a log that is opened over what stands for another one says the same
+pub said_found : (late : List ℕ) (o : Option LogView) (l : LogView) (a b : List ℕ) → IsRead late o a b → lanes_text late a b ≡ Ok (found_of l) → log_said o ≡ said l
+said_found late None l a b read e = absurd read
+said_found late (Some m) l a b read e =
+    ap said read.2 ∙ (ap (λ (f : Found). said (view_of m.lane a b f)) (found_same late a b read.0 (found_of l) read.1 e) ∙ said_view m.lane a b l)
 
-module _ (old new : WorldView) (b : ℕ) (lanes : ℕ → Lane) (fits : IsWorld old) (sound : IsSound old) (unspent : old.spent ≡ false) (l : LanesFit lanes old) (j : b < length old.topo.brokers)
+-- what a crash leaves of lanes in which a log stands stands for it
+pub left_found : StandsFound → (late : List ℕ) (ls : Lanes) (l : LogView) → Stands ls l → l.state.late ≡ late → lanes_text late (crash_image ls.first) (crash_image ls.second) ≡ Ok (found_of l)
+left_found law late ls l s same =
+    subst (λ (js : List ℕ). lanes_text js (crash_image ls.first) (crash_image ls.second) ≡ Ok (found_of l)) same
+    (law ls l (crash_image ls.first) (crash_image ls.second) s (image_left ls.first, image_left ls.second))
+
+module _ (law : StandsFound) (old new : WorldView) (b : ℕ) (lanes : ℕ → Lane) (fits : IsWorld old) (sound : IsSound old) (unspent : old.spent ≡ false) (l : LanesFit lanes old) (j : b < length old.topo.brokers)
     (elsewhere : (p : ℕ) → p < length old.topo.publishers → host_of old.topo p ≢ b → log_at new p ≡ log_at old p)
-    (found : (p : ℕ) → p < length old.topo.publishers → host_of old.topo p ≡ b → IsRead old.topo.late (log_at new p) (crash_image (lanes (2 * p)))) where
+    (found : (p : ℕ) → p < length old.topo.publishers → host_of old.topo p ≡ b → IsLeft old.topo.late (log_at new p) (lanes_at lanes (log_lane p))) where
   log_found : (p : ℕ) → p < length old.topo.publishers → host_of old.topo p ≡ b → log_said (log_at new p) ≡ log_said (log_at old p)
   log_found p i at =
       let m = hosted_log old.topo b (broker_in old b) (fits.brokers b j) (fits.numbered b j) p i at in
       let e : log_at old p ≡ Some m.0 = subst (λ (c : ℕ). log_in (broker_in old c) p ≡ Some m.0) (sym at) m.1 in
       let fit = l.logs unspent p m.0 i (λ down. absurd (not_down (host_of old.topo p) (sym sound.up ∙ down))) e in
-      let stands = fit.ready (sound.logs p m.0 i e) in
-      let text : IsSpelled old.topo.late (content (lanes (2 * p))) m.0.records = subst (λ (x : List ℕ). IsSpelled x (content (lanes (2 * p))) m.0.records) ((fits.brokers b j).late p m.0 m.1) stands.text in
-      said_same old.topo.late (log_at new p) m.0 (crash_image (lanes (2 * p))) (found p i at)
-      (ap (log_text old.topo.late) (image_read (lanes (2 * p)) fit.unset) ∙ reads_spelled old.topo.late (content (lanes (2 * p))) m.0.records text)
+      let ls = lanes_at lanes (log_lane p) in
+      said_found old.topo.late (log_at new p) m.0 (crash_image ls.first) (crash_image ls.second) (found p i at)
+      (left_found law old.topo.late ls m.0 (fit.ready (sound.logs p m.0 i e)) ((fits.brokers b j).late p m.0 m.1))
       ∙ sym (ap log_said e)
     where
       not_down : (c : ℕ) → None ≡ Some c → ⊥
@@ -158,7 +161,7 @@ noted_sound old mid new r r' same e s never = record {
 
 -- Over the logs that it leaves it is the machine's, whether the disk had failed one or not
 pub crashes_over : (old new : WorldView) (b : ℕ) (lanes : ℕ → Lane) (opened lines : List Report) → (let w : World = world_of new in Does (restart_over (net_in old) (world_of old) b w.logs) new (Ok opened))
-    → ((p : ℕ) → p < length old.topo.publishers → host_of old.topo p ≢ b → log_at new p ≡ log_at old p) → ((p : ℕ) → p < length old.topo.publishers → host_of old.topo p ≡ b → IsRead old.topo.late (log_at new p) (crash_image (lanes (2 * p))))
+    → ((p : ℕ) → p < length old.topo.publishers → host_of old.topo p ≢ b → log_at new p ≡ log_at old p) → ((p : ℕ) → p < length old.topo.publishers → host_of old.topo p ≡ b → IsLeft old.topo.late (log_at new p) (lanes_at lanes (log_lane p)))
     → lines ≡ line.Crashed b ∷ opened → Crashes b lanes old new lines
 crashes_over old new b lanes opened lines does elsewhere found e = record {
   found = found;

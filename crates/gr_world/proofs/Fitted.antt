@@ -12,13 +12,14 @@ use Rattle.gr_model.specs.Net.{Net}
 use Rattle.gr_model.specs.NetOf.{net_of, IsOrderly}
 use Rattle.gr_model.specs.Tree.{IsNet}
 use Rattle.gr_model.specs.Broker.{max_tick}
-use Rattle.gr_model.specs.World.{World, next, next_by, run_all, run_from, run_from_by, report_of, report_of_by, start, show, sweep, sweep_moment}
+use Rattle.gr_model.specs.World.{World, Transition, next, next_by, run_all, run_from, run_from_by, report_of, report_of_by, start_by, show, sweep, sweep_moment}
 use Rattle.gr_model_calls.specs.Fits.{StepIn, StepsIn, history_of}
-use Rattle.gr_model_calls.specs.OneNet as one
-use Rattle.gr_model_theorems.specs.Settles.{SweepSettles, AllGot, is_accepted}
+use Rattle.gr_model_theorems.specs.Forgets.{ForgetTheSame, DifferInCut, TellTheSame}
+use Rattle.gr_model_theorems.specs.Settles.{is_accepted}
 use Rattle.gr_model_theorems.specs.Statements.{world_after, joined_net}
 use Rattle.gr_model_theorems.specs.Standing.{Fits as Stands}
 use Rattle.gr_model_theorems.proofs.joins.Always.{fits_always, sweep_same, sweep_settles, sweep_hands_over}
+use Rattle.gr_model_theorems.proofs.server.Lanes.{started_same, sweeps_same, moment_same}
 use Rattle.gr_world.specs.declared.fault.WorldFault.{WorldFault}
 use Rattle.gr_world.specs.declared.fault.WorldFault.TheVariants as fault
 use Rattle.gr_world.specs.Seen.{WorldView, net_in, world_of}
@@ -26,7 +27,7 @@ use Rattle.gr_world.specs.Of.{IsWorld, LanesFit, IsSound}
 use Rattle.gr_world.specs.Steps.{Makes, NotMemory, lines_of_step}
 use Rattle.gr_world.specs.Disk.{NotDisk}
 use Rattle.gr_world.specs.Ran.{noted_in}
-use Rattle.gr_world.specs.Fits.{Fits, GoesOn, SettlesAll}
+use Rattle.gr_world.specs.Fits.{forgetting_after, Fits, GoesOn, SettlesAll}
 use Rattle.gr_world.proofs.Stepping.{at_clock, clock_makes, clock_lanes}
 
 -- One step more
@@ -40,9 +41,16 @@ unfolding run_from_by
 lines_then net w [] l = refl
 lines_then net w (x ∷ xs) l = ap (λ rs. (next net w x).lines ∷ rs) (lines_then net (next net w x).world xs l)
 
-report_then : (net : Net) (xs : List Line) (l : Line) → report_of net (xs ++ l ∷ []) ≡ report_of net xs ++ (next net (run_all net (start net) xs).world l).lines ∷ []
+-- logs that forget lead to the same lines
+forgotten : (net : Net) (xs : List Line) → report_of net xs ≡ [] ∷ run_from net (start_by true net) xs
 unfolding report_of_by
-report_then net xs l = ap (λ rs. [] ∷ rs) (lines_then net (start net) xs l)
+forgotten net xs = let same : ForgetTheSame net xs = started_same net xs in ap (λ (rs : List (List Report)). [] ∷ rs) (sym same.lines)
+
+report_then : (net : Net) (xs : List Line) (l : Line) → report_of net (xs ++ l ∷ []) ≡ report_of net xs ++ (next net (forgetting_after net xs) l).lines ∷ []
+report_then net xs l =
+    forgotten net (xs ++ l ∷ [])
+    ∙ (ap (λ (rs : List (List Report)). [] ∷ rs) (lines_then net (start_by true net) xs l)
+    ∙ ap (λ (rs : List (List Report)). rs ++ (next net (forgetting_after net xs) l).lines ∷ []) (sym (forgotten net xs)))
 
 steps_then : (net : Net) (xs : List Line) (l : Line) → StepsIn net xs → StepIn net l.step → StepsIn net (xs ++ l ∷ [])
 steps_then net [] l a i = (i, tt)
@@ -88,7 +96,7 @@ goes_on s lanes lanes' old new r i makes topo unspent fits sound lanes_fit n lin
     let l : Line = record { number = n; step = s } in
     let net : Net = net_in old in
     let made = makes f.sound n lines e in
-    let here : next net (world_after net steps) l ≡ record { world = world_of new; lines = lines } = subst (λ (w : World). next net w l ≡ record { world = world_of new; lines = lines }) f.reached made in
+    let here : next net (forgetting_after net steps) l ≡ record { world = world_of new; lines = lines } = subst (λ (w : World). next net w l ≡ record { world = world_of new; lines = lines }) f.reached made in
     record {
       world = fits;
       lanes_fit = lanes_fit nots.0 f.lanes_fit;
@@ -97,7 +105,7 @@ goes_on s lanes lanes' old new r i makes topo unspent fits sound lanes_fit n lin
       tree = subst (λ (t : TopologyView). IsNet (net_of t)) (sym topo) f.tree;
       orderly = subst (λ (t : TopologyView). IsOrderly (net_of t)) (sym topo) f.orderly;
       steps_in = subst (λ (t : TopologyView). StepsIn (net_of t) (steps ++ l ∷ [])) (sym topo) (steps_then net steps l f.steps_in i);
-      reached = subst (λ (t : TopologyView). world_of new ≡ world_after (net_of t) (steps ++ l ∷ [])) (sym topo) (sym (ap (λ t. t.world) here) ∙ sym (world_then net (start net) steps l));
+      reached = subst (λ (t : TopologyView). world_of new ≡ forgetting_after (net_of t) (steps ++ l ∷ [])) (sym topo) (sym (ap (λ t. t.world) here) ∙ sym (world_then net (start_by true net) steps l));
       report = subst (λ (t : TopologyView). told ++ lines ∷ [] ≡ report_of (net_of t) (steps ++ l ∷ [])) (sym topo)
           (ap₂ (λ rs ls. rs ++ ls ∷ []) f.report (sym (ap (λ t. t.lines) here)) ∙ sym (report_then net steps l));
     }
@@ -134,7 +142,7 @@ clock_goes_on v w now most lanes same fits within e n lines steps told at f =
     (λ a b h. let k = subst IsSound (sym same) h in record { logs = k.logs; up = k.up }) (λ a k. clock_lanes v w now most same lanes k) n lines steps told at f
 
 -- nothing was done yet
-pub fits_start : (w : WorldView) (lanes : ℕ → Lane) → IsWorld w → LanesFit lanes w → IsSound w → w.spent ≡ false → IsNet (net_in w) → IsOrderly (net_in w) → world_of w ≡ start (net_in w) → Fits w lanes [] ([] ∷ [])
+pub fits_start : (w : WorldView) (lanes : ℕ → Lane) → IsWorld w → LanesFit lanes w → IsSound w → w.spent ≡ false → IsNet (net_in w) → IsOrderly (net_in w) → world_of w ≡ start_by true (net_in w) → Fits w lanes [] ([] ∷ [])
 unfolding report_of_by run_from_by
 fits_start w lanes fits f sound unspent tree orderly is = record {
   world = fits;
@@ -150,11 +158,16 @@ fits_start w lanes fits f sound unspent tree orderly is = record {
 
 -- What stands of it
 
--- all that a layer above may use of the world and the history of its steps
-pub stands_of : (w : WorldView) (lanes : ℕ → Lane) (steps : List Line) (told : List (List Report)) → Fits w lanes steps told → Stands (joined_net (net_in w) steps) (history_of (net_in w) steps) (world_of w)
-stands_of w lanes steps told f =
-    subst (Stands (joined_net (net_in w) steps) (history_of (net_in w) steps)) (sym f.reached)
-    (fits_always (net_in w) steps f.tree f.orderly.quiet f.orderly.retry f.steps_in)
+-- the machine that keeps all events is in the same world but for those that were cut
+pub differs_in_cut : (w : WorldView) (lanes : ℕ → Lane) (steps : List Line) (told : List (List Report)) → Fits w lanes steps told → DifferInCut (world_after (net_in w) steps) (world_of w)
+differs_in_cut w lanes steps told f =
+    let same : ForgetTheSame (net_in w) steps = started_same (net_in w) steps in
+    subst (DifferInCut (world_after (net_in w) steps)) (sym f.reached) same.worlds
+
+-- of it all stands that a layer above may use, and of the history of its steps
+pub stands_of : (w : WorldView) (lanes : ℕ → Lane) (steps : List Line) (told : List (List Report)) → Fits w lanes steps told
+    → Stands (joined_net (net_in w) steps) (history_of (net_in w) steps) (world_after (net_in w) steps)
+stands_of w lanes steps told f = fits_always (net_in w) steps f.tree f.orderly.quiet f.orderly.retry f.steps_in
 
 -- A sweep
 
@@ -168,13 +181,17 @@ pub settles_all : (old new : WorldView) (lanes : ℕ → Lane) (r : Result (List
 settles_all old new lanes (Err e) makes within steps told f = tt
 settles_all old new lanes (Ok lines) makes within steps told f =
     let net : Net = net_in old in
-    let accepted : is_accepted net (world_after net steps) ≡ true = subst (λ (w : World). is_accepted net w ≡ true) f.reached (le-leb (sweep_moment net (world_of old)) max_tick within) in
+    let differ : DifferInCut (world_after net steps) (world_of old) = differs_in_cut old lanes steps told f in
+    let accepted : is_accepted net (world_after net steps) ≡ true =
+    le-leb (sweep_moment net (world_after net steps)) max_tick (subst (λ m. m ≤ max_tick) (moment_same net (world_after net steps) (world_of old) differ) within) in
     let reaches : (k : ℕ) → sweep net (world_of old) k ≡ record { world = world_of new; lines = lines } = λ k. sym (next_sweep net (world_of old) k) ∙ makes k lines refl in
     record {
       is = reaches;
-      on_one = λ k. subst (λ (w : World). one.sweep (joined_net net steps) w k ≡ sweep net w k) (sym f.reached) (sym (sweep_same net steps k f.tree f.orderly.quiet f.steps_in)) ∙ reaches k;
-      settles = λ k. subst (λ (w : World). SweepSettles (joined_net net steps) w k) (sym f.reached) (sweep_settles net steps k f.tree f.orderly.quiet f.orderly.retry f.steps_in accepted);
-      all_got = λ k. subst (λ (w : World). AllGot (joined_net net steps) (history_of net steps) w k) (sym f.reached) (sweep_hands_over net steps k f.tree f.orderly.quiet f.orderly.retry f.steps_in accepted);
+      on_one = λ k.
+          subst (λ (t : Transition). TellTheSame t (record { world = world_of new; lines = lines })) (sweep_same net steps k f.tree f.orderly.quiet f.steps_in)
+          (subst (λ (t : Transition). TellTheSame (sweep net (world_after net steps) k) t) (reaches k) (sweeps_same net k (world_after net steps) (world_of old) differ));
+      settles = λ k. sweep_settles net steps k f.tree f.orderly.quiet f.orderly.retry f.steps_in accepted;
+      all_got = λ k. sweep_hands_over net steps k f.tree f.orderly.quiet f.orderly.retry f.steps_in accepted;
     }
 
 -- with its moment as the code has it

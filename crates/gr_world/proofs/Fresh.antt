@@ -5,7 +5,7 @@ use Rattle.std.specs.Prelude.{if◌then◌else◌, flat_map}
 use Rattle.gr_event.specs.declared.event.Event.{Event}
 use Rattle.gr_curio.specs.declared.values.Q3.TheVariants.{N, A}
 use Rattle.gr_curio.specs.Values.{Wanted, wanteds}
-use Rattle.gr_pubend.specs.Log.{Log, empty_log, log_know}
+use Rattle.gr_pubend.specs.Log.{Log, fresh_log, log_know}
 use Rattle.gr_model.specs.declared.report.Report.{Report}
 use Rattle.gr_model.specs.Net.{Net, is_host, keeps_horizon, not_empty}
 use Rattle.gr_model.specs.Broker.{View, Outcome, all_points, is_consolidated_by, consolidated, finished, kept_view, delivery_lines, new_ticks, passed, forward, still_wanted, forward_wants, learn, seen, started, horizon_after, data_ticks}
@@ -53,7 +53,7 @@ started_below net p b log other below =
 
 -- Over an empty log
 
-module _ (net : Net) (p b : ℕ) where
+module _ (net : Net) (p b : ℕ) (forgets : Bool) where
   -- no child has asked
   abbrev nobody : List Wanted
   nobody = map (λ _. []) (net.children p b)
@@ -62,11 +62,11 @@ module _ (net : Net) (p b : ℕ) where
   blank = record { know = []; wants = nobody; asks = []; horizon = 0; joins = [] }
 
   -- nothing is known
-  starts_blank : started net p b empty_log ≡ blank
+  starts_blank : started net p b (fresh_log forgets) ≡ blank
   unfolding started log_know
   starts_blank = go (is_host net p b)
     where
-      go : (here : Bool) → ◌≡◌ {A = View} (record { know = if here then log_know empty_log else []; wants = nobody; asks = []; horizon = 0; joins = if here then empty_log.joins else [] }) blank
+      go : (here : Bool) → ◌≡◌ {A = View} (record { know = if here then log_know (fresh_log forgets) else []; wants = nobody; asks = []; horizon = 0; joins = if here then (fresh_log forgets).joins else [] }) blank
       go true = refl
       go false = refl
 
@@ -111,38 +111,42 @@ module _ (net : Net) (p b : ℕ) where
   nothing_told h items (s ∷ ss) e = ap₂ (λ (xs ys : List Report). xs ++ ys) (ap (λ n. delivery_lines net p 0 n items s) e) (nothing_told h items ss e)
 
   -- a host learns nothing
-  learned_view : is_host net p b ≡ true → (learn net p b [] blank empty_log).view ≡ blank
+  learned_view : is_host net p b ≡ true → (learn net p b [] blank (fresh_log forgets)).view ≡ blank
   unfolding learn new_ticks
   learned_view here =
       learned_blank (keeps_horizon net p b) (horizon_after (keeps_horizon net p b) 0 []) (forward_wants net p [] (net.children p b) nobody) here
       (stays_zero (keeps_horizon net p b)) (none_wanted (net.children p b))
 
   -- and tells nothing
-  learned_lines : (learn net p b [] blank empty_log).lines ≡ []
+  learned_lines : (learn net p b [] blank (fresh_log forgets)).lines ≡ []
   unfolding learn
   learned_lines =
       let h = horizon_after (keeps_horizon net p b) 0 [] in
       nothing_told h (data_ticks 0 h []) (net.subscribers_at b) (stays_zero (keeps_horizon net p b))
 
-module _ (net : Net) (p b : ℕ) where
+module _ (net : Net) (p b : ℕ) (forgets : Bool) where
   -- the net that such a broker's view shows: no one has joined
   abbrev shown : Net
-  shown = seen net (blank net p b)
+  shown = seen net (blank net p b forgets)
 
   -- a start over an empty log is the machine's
-  pub fresh_view : (opened_at net p b empty_log).view ≡ started net p b empty_log
-  fresh_view = ap (λ (o : Outcome). o.view) (opened_by net p b empty_log (is_host net p b) (not_empty (net.subscribers_at b)) refl refl) ∙ go (is_host net p b) (not_empty (net.subscribers_at b)) refl
+  pub fresh_view : (opened_at net p b (fresh_log forgets)).view ≡ started net p b (fresh_log forgets)
+  fresh_view = ap (λ (o : Outcome). o.view) (opened_by net p b (fresh_log forgets) (is_host net p b) (not_empty (net.subscribers_at b)) refl refl) ∙ go (is_host net p b) (not_empty (net.subscribers_at b)) refl
     where
-      go : (here some : Bool) → is_host net p b ≡ here → (opened_if net p b empty_log here some).view ≡ started net p b empty_log
-      go true true here = ap (λ (v : View). let o : Outcome = learn (seen net v) p b [] v empty_log in o.view) (starts_blank net p b) ∙ learned_view shown p b here ∙ sym (starts_blank net p b)
+      go : (here some : Bool) → is_host net p b ≡ here → (opened_if net p b (fresh_log forgets) here some).view ≡ started net p b (fresh_log forgets)
+      go true true here = ap (λ (v : View). let o : Outcome = learn (seen net v) p b [] v (fresh_log forgets) in o.view) (starts_blank net p b forgets) ∙ learned_view shown p b forgets here ∙ sym (starts_blank net p b forgets)
       go true false here = refl
       go false some here = refl
 
   -- it tells nothing
-  pub fresh_lines : (opened_at net p b empty_log).lines ≡ []
-  fresh_lines = ap (λ (o : Outcome). o.lines) (opened_by net p b empty_log (is_host net p b) (not_empty (net.subscribers_at b)) refl refl) ∙ go (is_host net p b) (not_empty (net.subscribers_at b))
+  pub fresh_lines : (opened_at net p b (fresh_log forgets)).lines ≡ []
+  fresh_lines = ap (λ (o : Outcome). o.lines) (opened_by net p b (fresh_log forgets) (is_host net p b) (not_empty (net.subscribers_at b)) refl refl) ∙ go (is_host net p b) (not_empty (net.subscribers_at b))
     where
-      go : (here some : Bool) → (opened_if net p b empty_log here some).lines ≡ []
-      go true true = ap (λ (v : View). let o : Outcome = learn (seen net v) p b [] v empty_log in o.lines) (starts_blank net p b) ∙ learned_lines shown p b
+      go : (here some : Bool) → (opened_if net p b (fresh_log forgets) here some).lines ≡ []
+      go true true = ap (λ (v : View). let o : Outcome = learn (seen net v) p b [] v (fresh_log forgets) in o.lines) (starts_blank net p b forgets) ∙ learned_lines shown p b forgets
       go true false = refl
       go false some = refl
+
+-- whether the log forgets or not
+pub fresh_same : (net : Net) (p b : ℕ) (forgets other : Bool) → started net p b (fresh_log forgets) ≡ started net p b (fresh_log other)
+fresh_same net p b forgets other = starts_blank net p b forgets ∙ sym (starts_blank net p b other)

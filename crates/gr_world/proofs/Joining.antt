@@ -1,12 +1,14 @@
 -- Lines that were told are joined with what the next call answers: the two calls are one run, whatever the second answers. Deliveries are runs on a disk that they leave as it is
-use Rattle.std.proofs.Common.{◌≡◌, ℕ, ◌*◌, ◌<◌, List, length, Some, Result, Ok, Err, refl, sym, ap, ◌∙◌, subst}
+use Rattle.std.proofs.Common.{◌≡◌, ℕ, ◌<◌, List, length, Some, Result, Ok, Err, refl, sym, ap, ◌∙◌, subst}
 use Rattle.std.specs.List.{AllByRecursion}
 use Rattle.gr_out.specs.Lane.{Lane}
+use Rattle.gr_publog.specs.Views.{lanes_at}
 use Rattle.gr_model.specs.declared.report.Report.{Report}
 use Rattle.gr_topo.specs.Topology.{TopologyView, host_of}
 use Rattle.gr_model.specs.Net.{Net}
 use Rattle.gr_model.specs.NetOf.{net_of}
 use Rattle.gr_model.specs.World.{World, Transition, followed_by}
+use Rattle.gr_broker.specs.Lanes.{log_lane}
 use Rattle.gr_world.specs.declared.fault.WorldFault.{WorldFault}
 use Rattle.gr_world.specs.declared.fault.WorldFault.TheVariants as fault
 use Rattle.gr_world.specs.Seen.{WorldView, log_at, net_in, world_of}
@@ -77,7 +79,7 @@ lanes_kept lanes a b k same x = record {
   logs = λ u p l i d e.
       let j : p < length a.topo.publishers = subst (λ t. p < length t.publishers) k.topo i in
       x.logs (sym k.spent ∙ u) p l j (λ h. d (k.down ∙ h ∙ ap (λ t. Some (host_of t p)) (sym k.topo))) (sym (same p j) ∙ e);
-  readable = λ u p i. subst (λ (t : TopologyView). IsReadable t.late (lanes (2 * p))) (sym k.topo) (x.readable (sym k.spent ∙ u) p (subst (λ t. p < length t.publishers) k.topo i));
+  readable = λ u p i. subst (λ (t : TopologyView). IsReadable t.late (lanes_at lanes (log_lane p))) (sym k.topo) (x.readable (sym k.spent ∙ u) p (subst (λ t. p < length t.publishers) k.topo i));
 }
 
 -- Lanes that are nobody's

@@ -1,10 +1,12 @@
 -- A call on a world that has called brokers, and noted where memory was refused, is the machine's step; it leaves a world, and lanes that fit it
-use Rattle.std.proofs.Common.{◌≡◌, ℕ, ◌*◌, ◌<◌, List, length, Some, None, Result, Ok, Err, sym, ap, ap₂, ◌∙◌, subst}
+use Rattle.std.proofs.Common.{◌≡◌, ℕ, ◌<◌, List, length, Some, None, Result, Ok, Err, sym, ap, ap₂, ◌∙◌, subst}
 use Rattle.std.proofs.lemmas.Bool.{true≢false}
 use Rattle.gr_out.specs.Lane.{Lane}
+use Rattle.gr_publog.specs.Views.{lanes_at}
 use Rattle.gr_sched.specs.declared.step.Step.{Step}
 use Rattle.gr_model.specs.declared.report.Report.{Report}
 use Rattle.gr_model.specs.World.{Transition, next}
+use Rattle.gr_broker.specs.Lanes.{log_lane}
 use Rattle.gr_world.specs.declared.fault.WorldFault.{WorldFault}
 use Rattle.gr_world.specs.declared.fault.WorldFault.TheVariants as fault
 use Rattle.gr_topo.specs.Topology.{TopologyView, host_of}
@@ -70,5 +72,5 @@ lanes_kept {lanes} {old} {new} k same f =
     let many = ap (λ (t : TopologyView). length t.publishers) k.topo in
     record {
       logs = λ s p l h up at. f.logs (sym k.spent ∙ s) p l (rw many at h) (λ d. up (k.down ∙ (d ∙ ap (λ (t : TopologyView). Some (host_of t p)) (sym k.topo)))) (sym (same p (rw many at h)) ∙ at);
-      readable = λ s p h. subst (λ (t : TopologyView). IsReadable t.late (lanes (2 * p))) (sym k.topo) (f.readable (sym k.spent ∙ s) p (rw many at h));
+      readable = λ s p h. subst (λ (t : TopologyView). IsReadable t.late (lanes_at lanes (log_lane p))) (sym k.topo) (f.readable (sym k.spent ∙ s) p (rw many at h));
     }

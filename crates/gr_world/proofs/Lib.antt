@@ -8,6 +8,7 @@ pub mod StoppedWorlds
 pub mod Absorbing
 pub mod Fitting
 pub mod Answers
+pub mod Both
 pub mod Lanes
 pub mod Called
 pub mod Woken

@@ -1,6 +1,6 @@
 -- A call of a host that logs a record or none, within a step: what it leaves is the world's, and the machine's outcome of it is
 -- absorbed
-use Rattle.std.proofs.Common.{◌≡◌, ◌≢◌, ℕ, ◌*◌, ◌<◌, true, false, List, length, set, Option, Some, None, Result, Ok, Err, OnOk, OnErr, refl, sym, ap, ap₂, ◌∙◌, subst}
+use Rattle.std.proofs.Common.{◌≡◌, ℕ, suc, ◌<◌, true, false, List, length, set, Option, Some, None, Result, Ok, Err, OnOk, OnErr, refl, sym, ap, ap₂, ◌∙◌, subst}
 use Rattle.std.specs.Prelude.{◌↔◌, IsSome, is_some, IfOk, IsErrOf}
 use Rattle.std.specs.List.{AllByRecursion}
 use Rattle.std.proofs.lemmas.Bool.{eq-eqb, false≢true}
@@ -8,7 +8,7 @@ use Rattle.std.proofs.lemmas.List.{set-get_or}
 use Rattle.gr_out.specs.Lane.{Lane}
 use Rattle.gr_publog.specs.declared.record.Record.{Record}
 use Rattle.gr_publog.specs.declared.record.LogFault.TheVariants as log_fault
-use Rattle.gr_publog.specs.Crash.{LogView}
+use Rattle.gr_publog.specs.Views.{LogView, lanes_at, AwayFrom}
 use Rattle.gr_publog.specs.Calls.{Appends, Leaves}
 use Rattle.gr_topo.specs.Topology.{TopologyView, host_of}
 use Rattle.gr_model.specs.declared.report.Report.{Report}
@@ -19,6 +19,7 @@ use Rattle.gr_broker_relay.specs.declared.outcome.Outcome.{Outcome}
 use Rattle.gr_broker_relay.specs.Told.{Tells}
 use Rattle.gr_broker.specs.declared.outcome.BrokerFault.{BrokerFault}
 use Rattle.gr_broker.specs.declared.outcome.BrokerFault.TheVariants as refused
+use Rattle.gr_broker.specs.Lanes.{log_lane}
 use Rattle.gr_broker.specs.Seen.{BrokerView, log_in, log_said, machine_log, with_logged, is_broken, logged_at, broken_at}
 use Rattle.gr_broker.specs.Of.{IsBrokerOf, LogsStand}
 use Rattle.gr_broker.specs.Told.{log_answer}
@@ -33,7 +34,7 @@ use Rattle.gr_world.specs.Stopped.{broken_in}
 use Rattle.gr_world.specs.Taking.{Follows, TakesUp, put_in}
 use Rattle.gr_world.proofs.Absorbing.{Touches, log_here}
 use Rattle.gr_world.proofs.Answers.{on_ok, ok_answer, ok_follows, spelled_follow, disk_follows, reopen_follows, reopen_told, not_disk, carried_follows, leaves_on, touched, touched_broken, untouched, whole_logged, whole_with, closes, logged_none, log_same, failed_same}
-use Rattle.gr_world.proofs.Lanes.{LaneMoves, appends_moves, lanes_fit}
+use Rattle.gr_world.proofs.Lanes.{LaneMoves, appends_moves, lanes_same, lanes_fit}
 use Rattle.gr_world.proofs.Called.{Called, called_does, Site, site_read, site_fits, site_publisher, site_ran}
 
 -- A call of a broker: its machine's outcome, and the record that it logs or none
@@ -54,7 +55,7 @@ pub record LogsOn (logs : BrokerView → Option Record) (x : BrokerView) (p : �
   pub lane : AppendsAt x p (logs x) lanes lanes' (log_answer answer)
   pub idle : IsErrOf answer refused.Reopen → (n : ℕ) → lanes' n ≡ lanes n
   pub untouched : logs x ≡ None → (n : ℕ) → lanes' n ≡ lanes n
-  pub others : (n : ℕ) → n ≢ 2 * p → lanes' n ≡ lanes n
+  pub others : (n : ℕ) → AwayFrom (log_lane p) n → lanes' n ≡ lanes n
   pub stands : LogsStand lanes' after
 
 module _ (w : WorldView) (b p : ℕ) (call : Call) (one : MachineOutcome) (i : IsWorld w) (lt : b < length w.topo.brokers) (below : p < length w.topo.publishers) (at : host_of w.topo p ≡ b) where
@@ -110,26 +111,26 @@ module _ (w : WorldView) (b p : ℕ) (call : Call) (one : MachineOutcome) (i : I
 
   -- The lanes
 
-  -- the lane of a log that the disk has failed stays
+  -- the lanes of a log that the disk has failed stay
   still : (after : BrokerView) (lanes lanes' : ℕ → Lane) (answer : Result Outcome BrokerFault) → Logs w.topo call broker p after answer → LogsOn call.logs broker p after lanes lanes' answer
-      → is_broken (log_in broker p) ≡ true → lanes' (2 * p) ≡ lanes (2 * p)
+      → is_broken (log_in broker p) ≡ true → lanes_at lanes' (log_lane p) ≡ lanes_at lanes (log_lane p)
   still after lanes lanes' answer k on broken = go (call.logs broker) refl
     where
-      go : (r : Option Record) → call.logs broker ≡ r → lanes' (2 * p) ≡ lanes (2 * p)
-      go None h = on.untouched h (2 * p)
-      go (Some r) h = on.idle (k.reopen.1 (broken, ap is_some h)) (2 * p)
+      go : (r : Option Record) → call.logs broker ≡ r → lanes_at lanes' (log_lane p) ≡ lanes_at lanes (log_lane p)
+      go None h = lanes_same lanes lanes' (log_lane p) (on.untouched h (log_lane p)) (on.untouched h (suc (log_lane p)))
+      go (Some r) h = let idle = on.idle (k.reopen.1 (broken, ap is_some h)) in lanes_same lanes lanes' (log_lane p) (idle (log_lane p)) (idle (suc (log_lane p)))
 
-  -- and any other is left with the records of its log, or with those and the further one
+  -- and any others are left with what the log held, or with that and the further record
   abbrev Appended : Option LogView → (ℕ → Lane) → (ℕ → Lane) → Result Outcome BrokerFault → Type 0
-  Appended o lanes lanes' answer = elim o [ Some l ↦ Appends l (call.logs broker) (lanes (2 * p)) (lanes' (2 * p)) (log_answer answer) | None ↦ Unit {0} ]
+  Appended o lanes lanes' answer = elim o [ Some l ↦ Appends l (call.logs broker) (lanes_at lanes (log_lane p)) (lanes_at lanes' (log_lane p)) (log_answer answer) | None ↦ Unit {0} ]
 
   pub moves : (after : BrokerView) (lanes lanes' : ℕ → Lane) (answer : Result Outcome BrokerFault) → Logs w.topo call broker p after answer → LogsOn call.logs broker p after lanes lanes' answer
-      → LaneMoves w.topo.late (lanes (2 * p)) (lanes' (2 * p))
+      → LaneMoves w.topo.late (lanes_at lanes (log_lane p)) (lanes_at lanes' (log_lane p))
   moves after lanes lanes' answer k on = go (log_in broker p) refl on.lane hosted (still after lanes lanes' answer k on)
     where
-      go : (o : Option LogView) → log_in broker p ≡ o → Appended o lanes lanes' answer → is_some o ≡ true → (is_broken o ≡ true → lanes' (2 * p) ≡ lanes (2 * p)) → LaneMoves w.topo.late (lanes (2 * p)) (lanes' (2 * p))
+      go : (o : Option LogView) → log_in broker p ≡ o → Appended o lanes lanes' answer → is_some o ≡ true → (is_broken o ≡ true → lanes_at lanes' (log_lane p) ≡ lanes_at lanes (log_lane p)) → LaneMoves w.topo.late (lanes_at lanes (log_lane p)) (lanes_at lanes' (log_lane p))
       go (Some l) is a s quiet =
-          subst (λ (late : List ℕ). LaneMoves late (lanes (2 * p)) (lanes' (2 * p))) ((i.brokers b lt).late p l is) (appends_moves l (call.logs broker) (lanes (2 * p)) (lanes' (2 * p)) (log_answer answer) a quiet)
+          appends_moves w.topo.late l (call.logs broker) (lanes_at lanes (log_lane p)) (lanes_at lanes' (log_lane p)) (log_answer answer) ((i.brokers b lt).late p l is) a quiet
       go None is a s quiet = absurd (false≢true s)
 
   logs_lanes : (after : BrokerView) (frames : List (List ℕ)) (lanes lanes' : ℕ → Lane) (answer : Result Outcome BrokerFault) (result : Result (List Report) WorldFault) → IsOpen w → LanesFit lanes w

@@ -1,10 +1,9 @@
 -- The moment of a sweep: the greatest of all moments and settled ticks, publisher by publisher, and the settings on top, which stay far below the last number of 64 bits
 use Rattle.std.proofs.Common.{◌≡◌, ℕ, suc, ◌+◌, ◌-◌, ◌^◌, ◌<◌, ◌≤◌, max, List, ◌∷◌, length, map, get_or, Some, sym, ap, ap₂, ◌∙◌, arith, add-one}
 use Rattle.std.proofs.lemmas.List.{get_or_read}
-use Rattle.gr_publog.specs.Crash.{LogView}
-use Rattle.gr_publog.specs.State.{state_of, first_standing, Follow}
-use Rattle.gr_pubend.specs.Log.{Log, empty_log, log_of as log_of_records}
-use Rattle.gr_pubend.proofs.Knowing.{stays_of}
+use Rattle.gr_publog.specs.State.{IsState}
+use Rattle.gr_publog.specs.Views.{LogView}
+use Rattle.gr_pubend.specs.Log.{Log, empty_log, said}
 use Rattle.gr_topo.specs.Topology.{TopologyView, host_of}
 use Rattle.gr_model.specs.Net.{numbers, numbers_from}
 use Rattle.gr_model.specs.World.{greatest_settled, log_of, sweep_moment}
@@ -28,15 +27,12 @@ log_here w p i =
     get_numbers (λ q. log_said (log_at w q)) 0 (length w.topo.publishers) p empty_log i ∙ ap (λ q. log_said (log_at w q)) z
 
 -- the machine's log of a publisher is the one at its host
-pub log_is : (w : WorldView) (p : ℕ) (l : LogView) → p < length w.topo.publishers → log_at w p ≡ Some l → log_of (world_of w) p ≡ log_of_records l.records
+pub log_is : (w : WorldView) (p : ℕ) (l : LogView) → p < length w.topo.publishers → log_at w p ≡ Some l → log_of (world_of w) p ≡ said l
 log_is w p l i e = log_here w p i ∙ ap (λ o. log_said o) e
 
--- what it has settled is what its records have settled
-pub settled_is : (w : WorldView) (p n : ℕ) (l : LogView) → p < length w.topo.publishers → log_at w p ≡ Some l → Follow (first_standing l.late) l.records → n ≡ (state_of l.records).settled → (n ≡ (log_of (world_of w) p).settled) × (n ≤ 2 ^ 62)
-settled_is w p n l i e follow is =
-    let s = stays_of l.late l.records follow in
-    let same : n ≡ (log_of_records l.records).settled = is ∙ sym s.settled in
-    (same ∙ sym (ap (λ (k : Log). k.settled) (log_is w p l i e)), omega (arith, same, s.upto))
+-- what it has settled is what the code's log has
+pub settled_is : (w : WorldView) (p n : ℕ) (l : LogView) → p < length w.topo.publishers → log_at w p ≡ Some l → IsState l.state → n ≡ l.state.settled → (n ≡ (log_of (world_of w) p).settled) × (n ≤ 2 ^ 62)
+settled_is w p n l i e state is = (is ∙ sym (ap (λ (k : Log). k.settled) (log_is w p l i e)), omega (arith, is, state.settled))
 
 -- Over all publishers
 

@@ -1,38 +1,74 @@
 -- A world whose brokers have all started: it is one of the topology, its logs are those that the lanes hold, and over empty lanes it
 -- is the machine's world before the first step.
-use Rattle.std.proofs.Common.{◌≡◌, ℕ, ◌*◌, ◌<◌, false, List, [], length, map, Option, Some, None, Ok, refl, sym, ap, ap₂, ◌∙◌, subst, arith}
+use Rattle.std.proofs.Common.{◌≡◌, ℕ, suc, ◌<◌, Bool, true, false, List, [], length, map, Option, Some, None, Result, Ok, Err, OnOk, refl, sym, ap, ap₂, ◌∙◌, subst, arith}
 use Rattle.std.proofs.lemmas.List.{length-map, get_or-map, ext_get_or}
 use Rattle.gr_out.specs.Lane.{Lane, content}
-use Rattle.gr_publog.specs.declared.record.Record.{Record}
-use Rattle.gr_publog.specs.Text.{log_text}
-use Rattle.gr_publog.specs.Crash.{LogView, Stands}
-use Rattle.gr_publog.specs.Calls.{Opens}
-use Rattle.gr_pubend.specs.Log.{Log, empty_log, log_of}
+use Rattle.gr_publog.specs.declared.record.LogFault.{LogFault}
+use Rattle.gr_publog.specs.Lanes.{Found, found_none, lanes_text}
+use Rattle.gr_publog.specs.Views.{LogView, Lanes, lanes_at, StandsRead}
+use Rattle.gr_publog.specs.Opens.{OpensAs, view_of, Settles, Opens}
+use Rattle.gr_pubend.specs.Log.{Log, fresh_log, said}
 use Rattle.gr_topo.specs.Topology.{TopologyView, IsTopology, host_of}
 use Rattle.gr_model.specs.declared.report.Report.{Report}
 use Rattle.gr_model.specs.Net.{numbers}
 use Rattle.gr_model.specs.NetOf.{net_of}
 use Rattle.gr_model.specs.Broker.{View, started}
-use Rattle.gr_model.specs.World.{World, blank_view, start}
+use Rattle.gr_model.specs.World.{World, blank_view, start_by}
 use Rattle.gr_model_calls.proofs.runs.Schedules.{get_numbers, length_numbers}
+use Rattle.gr_broker.specs.Lanes.{log_lane, AreUnset}
 use Rattle.gr_broker.specs.Seen.{BrokerView, log_in, view_in, log_said, machine_log}
 use Rattle.gr_broker.specs.Opened.{opened_at}
+use Rattle.gr_world.specs.Lanes.{AreReserved}
 use Rattle.gr_world.specs.Seen.{WorldView, no_broker, broker_in, log_at, world_of}
 use Rattle.gr_world.specs.Of.{IsWorld, LanesFit}
-use Rattle.gr_world.specs.Opened.{NoStops, AreEmpty, IsRead, IsOpened}
+use Rattle.gr_world.specs.Opened.{NoStops, AreEmpty, IsRead, IsFound, IsOpened}
 use Rattle.gr_world.specs.Starting.{start_lines, HasStarted, HaveStarted, HaveOpened}
 use Rattle.gr_report.proofs.Hosts.{hosted_log}
 use Rattle.gr_report.proofs.Along.{flat_map_none, map_same}
-use Rattle.gr_report.proofs.Readable.{ok_same, stands_readable}
-use Rattle.gr_world.proofs.Fresh.{fresh_view, fresh_lines}
+use Rattle.gr_report.proofs.Readable.{found_same, nothing_found, stands_readable}
+use Rattle.gr_world.proofs.Fresh.{fresh_view, fresh_lines, fresh_same}
 
-reads_nothing : (late : List ℕ) (rs : List Record) → log_text late [] ≡ Ok rs → rs ≡ []
-unfolding log_text
-reads_nothing late rs e = ok_same rs [] (sym e)
+-- Over lanes that read nothing
 
--- a log is what its lane held
-pub is_read : (late : List ℕ) (o : Option LogView) (l : LogView) (bytes : List ℕ) → o ≡ Some l → log_text late bytes ≡ Ok l.records → IsRead late o bytes
-is_read late o l bytes e read = subst (λ (x : Option LogView). IsRead late x bytes) (sym e) read
+-- what is said of the log that they hold is the machine's first log
+said_first : (late : List ℕ) (lane : ℕ) (a b : List ℕ) (l : LogView) → a ≡ [] → b ≡ [] → OpensAs late lane a b (Ok l) → said l ≡ fresh_log true
+said_first late lane a b l none too o =
+    let found : lanes_text late [] [] ≡ Ok o.0 = ap₂ (lanes_text late) (sym none) (sym too) ∙ o.1 in
+    let same : o.0 ≡ found_none late = found_same late [] [] o.0 (found_none late) found (nothing_found late) in
+    ap said o.2
+    ∙ (ap (λ (f : Found). said (view_of lane a b f)) same
+    ∙ ap₂ (λ (x y : List ℕ). said (view_of lane x y (found_none late))) none too)
+
+-- What an opening leaves
+
+-- a log is what its lanes held
+pub is_read : (late : List ℕ) (o : Option LogView) (l : LogView) (lane : ℕ) (a b : List ℕ) → o ≡ Some l → l.lane ≡ lane → OpensAs late lane a b (Ok l) → IsRead late o a b
+is_read late o l lane a b e same opens =
+    subst (λ (x : Option LogView). IsRead late x a b) (sym e) (subst (λ (n : ℕ). OpensAs late n a b (Ok l)) (sym same) opens)
+
+-- where it was answered the syncs came through
+opens_by : {P : Type 0} (late : List ℕ) (lane : ℕ) (before after : Lanes) (l : LogView) (o : Opens late lane before after (Ok l))
+    → ((u : Unit {0}) → o.answer ≡ Ok u → Settles late lane o.synced after (Ok l) → P) → P
+opens_by {P} late lane before after l o f = go o.answer refl
+  where
+    no_fault : (e : LogFault) → ◌≡◌ {A = Result LogView LogFault} (Ok l) (Err e) → ⊥
+    no_fault e h = cc
+
+    go : (x : Result (Unit {0}) LogFault) → o.answer ≡ x → P
+    go (Ok u) e = f u e (subst (λ (y : Result (Unit {0}) LogFault). OnOk y (Settles late lane o.synced after (Ok l))) e o.settles)
+    go (Err h) e = absurd (no_fault h (o.stops h e).1)
+
+-- room was made in both lanes
+pub opens_reserved : (late : List ℕ) (lane : ℕ) (before after : Lanes) (l : LogView) → Opens late lane before after (Ok l) → AreReserved after
+opens_reserved late lane before after l o =
+    opens_by late lane before after l o (λ u e s.
+    let room = subst (λ (y : Result (Unit {0}) LogFault). OnOk y ((o.synced.first.reserved ≡ true) × (o.synced.second.reserved ≡ true))) e o.syncs.reserved in
+    record { first = s.reserved_first room.0; second = s.reserved_second room.1 })
+
+-- and no stop was ordered
+pub opens_unset : (late : List ℕ) (lane : ℕ) (before after : Lanes) (l : LogView) → Opens late lane before after (Ok l) → AreUnset before → AreUnset after
+opens_unset late lane before after l o u =
+    opens_by late lane before after l o (λ x e s. record { first = s.unset_first (o.syncs.unset_first u.first); second = s.unset_second (o.syncs.unset_second u.second) })
 
 -- a world at its first moment
 abbrev pub world_at : TopologyView → List BrokerView → List Report → List (List ℕ) → WorldView
@@ -82,47 +118,54 @@ module _ (t : TopologyView) (brokers : List BrokerView) (told : List Report) (so
   has_log p j = let h = broker_at p j in hosted_log t (host_of t p) (broker_in opened_world (host_of t p)) h.fits h.number p j refl
 
   module _ (before after : ℕ → Lane) (o : HaveOpened t (length t.brokers) brokers before after) where
-    lane_opened : (p : ℕ) (l : LogView) → p < length t.publishers → log_at opened_world p ≡ Some l → Opens t.late (before (2 * p)) (after (2 * p)) (Ok l)
+    lane_opened : (p : ℕ) (l : LogView) → p < length t.publishers → log_at opened_world p ≡ Some l → Opens t.late (log_lane p) (lanes_at before (log_lane p)) (lanes_at after (log_lane p)) (Ok l)
     lane_opened p l j e = o.opened (host_of t p) p l (sound.sound.host_in p j) e
 
     -- the logs are those that the lanes hold
-    pub opened_found : (p : ℕ) → p < length t.publishers → IsRead t.late (log_at opened_world p) (content (before (2 * p)))
+    pub opened_found : (p : ℕ) → p < length t.publishers → IsFound t.late (log_at opened_world p) (lanes_at before (log_lane p))
     opened_found p j =
         let l = has_log p j in
-        is_read t.late (log_at opened_world p) l.0 (content (before (2 * p))) l.1 (lane_opened p l.0 j l.1).gives
+        let ls = lanes_at before (log_lane p) in
+        is_read t.late (log_at opened_world p) l.0 (log_lane p) (content ls.first) (content ls.second) l.1 ((broker_at p j).fits.lanes p l.0 l.1) (lane_opened p l.0 j l.1).gives
 
     -- and the lanes fit them
-    pub opened_lanes : NoStops before → LanesFit after opened_world
-    opened_lanes none = record {
-      logs = λ unspent p l j up e. let x = lane_opened p l j e in record { ready = λ whole. subst (λ (late : List ℕ). Stands (after (2 * p)) late l.records) (sym ((broker_at p j).fits.late p l e)) x.stands; reserved = x.reserved; unset = x.unset (none (2 * p)) };
-      readable = λ unspent p j. let l = has_log p j in stands_readable (after (2 * p)) t.late l.0.records (lane_opened p l.0 j l.1).stands;
+    pub opened_lanes : StandsRead → NoStops before → LanesFit after opened_world
+    opened_lanes read none = record {
+      logs = λ unspent p l j up e.
+          let old = lanes_at before (log_lane p) in
+          let new = lanes_at after (log_lane p) in
+          let x = lane_opened p l j e in
+          record { ready = λ whole. x.stands; reserved = opens_reserved t.late (log_lane p) old new l x; unset = opens_unset t.late (log_lane p) old new l x (record { first = none (log_lane p); second = none (suc (log_lane p)) }) };
+      readable = λ unspent p j. let l = has_log p j in stands_readable read (lanes_at after (log_lane p)) l.0 t.late (lane_opened p l.0 j l.1).stands ((broker_at p j).fits.late p l.0 l.1);
     }
 
     -- Over empty lanes
 
     module _ (empty : AreEmpty t before) where
-      empty_records : (l : LogView) (bytes : List ℕ) → bytes ≡ [] → log_text t.late bytes ≡ Ok l.records → log_of l.records ≡ empty_log
-      empty_records l bytes none read = ap log_of (reads_nothing t.late l.records (sym (ap (log_text t.late) none) ∙ read))
+      said_empty : (p : ℕ) (l : LogView) (j : p < length t.publishers) → OpensAs t.late (log_lane p) (content (before (log_lane p))) (content (before (suc (log_lane p)))) (Ok l) → said l ≡ fresh_log true
+      said_empty p l j o = said_first t.late (log_lane p) (content (before (log_lane p))) (content (before (suc (log_lane p)))) l (empty p j).0 (empty p j).1 o
 
-      log_empty : (b p : ℕ) → b < length t.brokers → p < length t.publishers → machine_log (broker_in opened_world b) p ≡ empty_log
+      -- the machine's log is an empty one, and at the host one that forgets
+      log_empty : (b p : ℕ) → b < length t.brokers → p < length t.publishers → (forgets : Bool) × (machine_log (broker_in opened_world b) p ≡ fresh_log forgets)
       log_empty b p i j = go (log_in (broker_in opened_world b) p) refl
         where
-          go : (x : Option LogView) → log_in (broker_in opened_world b) p ≡ x → log_said (log_in (broker_in opened_world b) p) ≡ empty_log
-          go None e = ap log_said e
-          go (Some l) e = ap log_said e ∙ empty_records l (content (before (2 * p))) (empty p j) (o.opened b p l i e).gives
+          go : (x : Option LogView) → log_in (broker_in opened_world b) p ≡ x → (forgets : Bool) × (log_said (log_in (broker_in opened_world b) p) ≡ fresh_log forgets)
+          go None e = (false, ap log_said e)
+          go (Some l) e = (true, ap log_said e ∙ said_empty p l j (o.opened b p l i e).gives)
 
       abbrev fresh_views : ℕ → List View
-      fresh_views b = map (λ p. started (net_of t) p b empty_log) (numbers (length t.publishers))
+      fresh_views b = map (λ p. started (net_of t) p b (fresh_log true)) (numbers (length t.publishers))
 
-      view_fresh : (b p : ℕ) → b < length t.brokers → p < length t.publishers → view_in (broker_in opened_world b) p ≡ started (net_of t) p b empty_log
+      view_fresh : (b p : ℕ) → b < length t.brokers → p < length t.publishers → view_in (broker_in opened_world b) p ≡ started (net_of t) p b (fresh_log true)
       view_fresh b p i j =
+          let log = log_empty b p i j in
           (s.each b i).views p j
-          ∙ ap (λ (log : Log). (opened_at (net_of t) p b log).view) (log_empty b p i j)
-          ∙ fresh_view (net_of t) p b
+          ∙ ap (λ (log : Log). (opened_at (net_of t) p b log).view) log.1
+          ∙ (fresh_view (net_of t) p b log.0 ∙ fresh_same (net_of t) p b log.0 true)
 
       views_fresh : (b : ℕ) → b < length t.brokers → (broker_in opened_world b).views ≡ fresh_views b
       views_fresh b i =
-          let g : ℕ → View = λ p. started (net_of t) p b empty_log in
+          let g : ℕ → View = λ p. started (net_of t) p b (fresh_log true) in
           let many = (s.each b i).fits.views in
           ext_get_or blank_view (broker_in opened_world b).views (fresh_views b)
           (many ∙ sym (length_numbers g 0 (length t.publishers)))
@@ -137,13 +180,15 @@ module _ (t : TopologyView) (brokers : List BrokerView) (told : List Report) (so
           get_or-map (λ (v : BrokerView). v.views) brokers b no_broker [] (omega (arith, s.count, i))
           ∙ views_fresh b i ∙ sym (get_numbers fresh_views 0 (length t.brokers) b [] i ∙ ap fresh_views (omega arith)))
 
-      all_logs : map (λ p. log_said (log_at opened_world p)) (numbers (length t.publishers)) ≡ map (λ p. empty_log) (numbers (length t.publishers))
-      all_logs = map_same (λ p. log_said (log_at opened_world p)) (λ p. empty_log) 0 (length t.publishers) (λ p from upto.
-          let j : p < length t.publishers = omega (arith, upto) in log_empty (host_of t p) p (sound.sound.host_in p j) j)
+      log_fresh : (p : ℕ) → p < length t.publishers → log_said (log_at opened_world p) ≡ fresh_log true
+      log_fresh p j = let l = has_log p j in ap log_said l.1 ∙ said_empty p l.0 j (lane_opened p l.0 j l.1).gives
+
+      all_logs : map (λ p. log_said (log_at opened_world p)) (numbers (length t.publishers)) ≡ map (λ p. fresh_log true) (numbers (length t.publishers))
+      all_logs = map_same (λ p. log_said (log_at opened_world p)) (λ p. fresh_log true) 0 (length t.publishers) (λ p from upto. log_fresh p (omega (arith, upto)))
 
       -- the machine's world before the first step
-      pub fresh_world : world_of opened_world ≡ start (net_of t)
-      unfolding start
+      pub fresh_world : world_of opened_world ≡ start_by true (net_of t)
+      unfolding start_by
       fresh_world = ap₂ made all_views all_logs
         where
           made : List (List View) → List Log → World
@@ -152,7 +197,8 @@ module _ (t : TopologyView) (brokers : List BrokerView) (told : List Report) (so
       nothing_at : (b : ℕ) → b < length t.brokers → start_lines t b (broker_in opened_world b) ≡ []
       nothing_at b i = flat_map_none (λ p. (opened_at (net_of t) p b (machine_log (broker_in opened_world b) p)).lines) 0 (length t.publishers) (λ p from upto.
           let j : p < length t.publishers = omega (arith, upto) in
-          ap (λ (log : Log). (opened_at (net_of t) p b log).lines) (log_empty b p i j) ∙ fresh_lines (net_of t) p b)
+          let log = log_empty b p i j in
+          ap (λ (log : Log). (opened_at (net_of t) p b log).lines) log.1 ∙ fresh_lines (net_of t) p b log.0)
 
       -- and nothing is told
       pub fresh_told : told ≡ []

@@ -1,9 +1,10 @@
 -- A publish within a step is the machine's at the publisher's host
-use Rattle.std.proofs.Common.{◌≡◌, ℕ, ◌*◌, ◌<◌, true, List, length, Result, refl, sym, ap, ◌∙◌, subst}
+use Rattle.std.proofs.Common.{◌≡◌, ℕ, ◌<◌, true, List, length, Result, refl, sym, ap, ◌∙◌, subst}
 use Rattle.std.specs.Prelude.{◌↔◌, IfOk, IsErrOf}
 use Rattle.std.specs.List.{AllByRecursion}
 use Rattle.gr_event.specs.declared.event.Event.{Event}
 use Rattle.gr_out.specs.Lane.{Lane}
+use Rattle.gr_publog.specs.Views.{lanes_at}
 use Rattle.gr_topo.specs.Topology.{TopologyView, host_of}
 use Rattle.gr_model.specs.declared.report.Report.{Report}
 use Rattle.gr_model.specs.Net.{all_late}
@@ -14,6 +15,7 @@ use Rattle.gr_model_calls.specs.Edges.{GoesOverEdge}
 use Rattle.gr_model_calls.proofs.topology.Strays.{publish_on}
 use Rattle.gr_broker_relay.specs.declared.outcome.Outcome.{Outcome}
 use Rattle.gr_broker_relay.specs.Told.{Tells}
+use Rattle.gr_broker.specs.Lanes.{log_lane}
 use Rattle.gr_broker.specs.declared.outcome.BrokerFault.{BrokerFault}
 use Rattle.gr_broker.specs.Seen.{BrokerView, view_in, log_in, log_said, machine_log}
 use Rattle.gr_broker.specs.Hosted.{publish_at, publish_logs_at}
@@ -90,7 +92,7 @@ module _ (w : WorldView) (b p number : ℕ) (e : Event) (i : IsWorld w) (lt : b 
       logs_called w b p (publishing w.topo p w.clock number e) (publish_in w b p number e) i lt below at after frames answer result publish_same (publish_over n) k f takes
 
   pub moves : (after : BrokerView) (lanes lanes' : ℕ → Lane) (answer : Result Outcome BrokerFault) → Publishes w.topo broker p w.clock number e after answer → PublishesOn broker p w.clock number e after lanes lanes' answer
-      → LaneMoves w.topo.late (lanes (2 * p)) (lanes' (2 * p))
+      → LaneMoves w.topo.late (lanes_at lanes (log_lane p)) (lanes_at lanes' (log_lane p))
   moves after lanes lanes' answer k on = logged.moves w b p (publishing w.topo p w.clock number e) (publish_in w b p number e) i lt below at after lanes lanes' answer k on
 
 -- The call in code, where the world is seen by its parts and the host is read from the topology

@@ -18,7 +18,7 @@ use Rattle.gr_frame.specs.Decode.{frame_decoded}
 use Rattle.gr_frame.specs.Limits.{IsFrame}
 use Rattle.gr_frame.proofs.Spelled.{spelled_decodes}
 use Rattle.gr_know.specs.Values.{known_at}
-use Rattle.gr_publog.specs.Crash.{LogView}
+use Rattle.gr_publog.specs.Views.{LogView}
 use Rattle.gr_topo.specs.Topology.{host_of}
 use Rattle.gr_model.specs.declared.report.Report.{Report}
 use Rattle.gr_model.specs.Net.{Net, wants_with, all_late}

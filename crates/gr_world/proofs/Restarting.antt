@@ -1,14 +1,15 @@
 -- One broker is exchanged for one that has started over what the crash left in its lanes: the world is then the machine's restart over
 -- the logs that were found, all other brokers, logs and lanes are as they were, and each lane reads as a log.
-use Rattle.std.proofs.Common.{◌≡◌, ◌≢◌, ◌⊎◌, inl, inr, ℕ, ◌*◌, ◌<◌, Bool, true, false, ◌&&◌, List, [], ◌∷◌, length, get_or, set, map, Option, Some, None, Ok, refl, sym, ap, ◌∙◌, subst, arith}
+use Rattle.std.proofs.Common.{◌≡◌, ◌≢◌, ◌⊎◌, inl, inr, ℕ, suc, ◌<◌, Bool, true, false, ◌&&◌, List, [], ◌∷◌, length, get_or, set, map, Option, Some, None, Result, Ok, refl, sym, ap, ◌∙◌, subst, arith}
 use Rattle.std.specs.Prelude.{if◌then◌else◌, nat_lt, IsOk, is_ok}
 use Rattle.std.proofs.lemmas.Bool.{cases_eq, false≢true}
 use Rattle.std.proofs.lemmas.List.{length-set, get_or-set_same, get_or-set_other, map-set, ext_get_or}
-use Rattle.gr_out.specs.Lane.{Lane, Call, content, moment, crash_image, crashed, LeftAfter, MayLeave, LeftFrom}
+use Rattle.gr_out.specs.Lane.{Lane, content, crash_image}
 use Rattle.gr_out.proofs.Images.{image_left}
-use Rattle.gr_publog.specs.Text.{log_text}
-use Rattle.gr_publog.specs.Crash.{LogView, Stands}
-use Rattle.gr_publog.specs.Calls.{Opens}
+use Rattle.gr_publog.specs.Text.{◌>>=◌}
+use Rattle.gr_publog.specs.Lanes.{Found, state_in, HoldsWhatIsFound}
+use Rattle.gr_publog.specs.Views.{LogView, Lanes, lanes_at, MayLeavePair}
+use Rattle.gr_publog.specs.Opens.{Opens}
 use Rattle.gr_pubend.specs.Log.{Log, empty_log}
 use Rattle.gr_topo.specs.Topology.{TopologyView, host_of, subscribers_of, not_empty}
 use Rattle.gr_model.specs.declared.report.Report.{Report}
@@ -19,39 +20,47 @@ use Rattle.gr_model.specs.Broker.{View, started}
 use Rattle.gr_model.specs.World.{World, blank_view, restarted, opened_lines}
 use Rattle.gr_model.specs.Opening.{reopened_line}
 use Rattle.gr_model_calls.proofs.runs.Schedules.{get_numbers, length_numbers}
+use Rattle.gr_broker.specs.Lanes.{log_lane}
 use Rattle.gr_broker.specs.Seen.{BrokerView, log_in, view_in, log_said, machine_log}
 use Rattle.gr_broker.specs.Of.{IsBrokerOf}
 use Rattle.gr_broker.specs.Opened.{LosesNothing, opened_at}
 use Rattle.gr_world.specs.Seen.{WorldView, no_broker, broker_in, log_at, world_of, net_in, frame_said}
 use Rattle.gr_world.specs.Of.{IsWorld, LaneFits, IsReadable, LanesFit, IsSound}
-use Rattle.gr_world.specs.Opened.{IsRead, IsSoundBut, with_logs}
+use Rattle.gr_world.specs.Opened.{IsLeft, IsSoundBut, with_logs}
+use Rattle.gr_world.specs.Lanes.{crashed_lanes}
 use Rattle.gr_world.specs.Starting.{HasStarted, IsExchanged, OpensAgain, TouchesLanes, LeavesNoLog}
 use Rattle.gr_report.proofs.Hosts.{hosted_log, host_is, lanes_apart}
 use Rattle.gr_report.proofs.Along.{flat_map_same}
 use Rattle.gr_world.proofs.Fresh.{view_alone, lines_alone, started_below}
-use Rattle.gr_world.proofs.Opened.{is_read}
+use Rattle.gr_world.proofs.Opened.{is_read, opens_reserved, opens_unset}
+use Rattle.gr_world.proofs.Lanes.{left_pair_now, lanes_same}
 
 -- What a crash may leave
 
--- what may be left now was left at some moment since any other
-now_since : (start : List ℕ) (calls : List Call) (n : ℕ) (image : List ℕ) → LeftAfter start calls image → LeftFrom start calls n image
-now_since start [] n image left = left
-now_since start (c ∷ calls) n image left = inl left
+-- lanes that have lost nothing leave now what reads as before, or what they might have left before
+lost_none : (late : List ℕ) (before after : Lanes) → LosesNothing late before after → (a b : List ℕ) → MayLeavePair after a b
+    → MayLeavePair before a b ⊎ (state_in late a b ≡ state_in late (content before.first) (content before.second))
+lost_none late before after n a b left = n.any_moment a b (left_pair_now n.synced after a b left)
 
--- a crashed lane that has lost nothing reads as a log
-pub still_readable : (late : List ℕ) (before after : Lane) → IsReadable late before → LosesNothing late (crashed before) after → IsReadable late after
-still_readable late before after reads loses image left = go (loses image (now_since after.start after.calls (moment (crashed before)) image left))
+-- two lanes that have crashed and lost nothing hold a log
+pub still_readable : (late : List ℕ) (before after : Lanes) → IsReadable late before → LosesNothing late (crashed_lanes before) after → IsReadable late after
+still_readable late before after reads loses a b left = go (lost_none late (crashed_lanes before) after loses a b left)
   where
-    picked : IsOk (log_text late (crash_image before))
-    picked = reads (crash_image before) (image_left before)
+    picked : IsOk (state_in late (crash_image before.first) (crash_image before.second))
+    picked = reads (crash_image before.first) (crash_image before.second) (image_left before.first, image_left before.second)
 
-    go : MayLeave (crashed before) image ⊎ (log_text late image ≡ log_text late (content (crashed before))) → IsOk (log_text late image)
-    go (inl same) = subst (λ (bytes : List ℕ). IsOk (log_text late bytes)) (sym same) picked
+    go : MayLeavePair (crashed_lanes before) a b ⊎ (state_in late a b ≡ state_in late (crash_image before.first) (crash_image before.second)) → IsOk (state_in late a b)
+    go (inl same) = subst (λ (x : List ℕ). IsOk (state_in late x b)) (sym same.0) (subst (λ (y : List ℕ). IsOk (state_in late (crash_image before.first) y)) (sym same.1) picked)
     go (inr same) = subst (λ r. IsOk r) (sym same) picked
 
--- so no crash leaves a lane without a log
-pub no_log_left : (t : TopologyView) (b p at : ℕ) (lane : Lane) → LeavesNoLog t b p at lane → IsReadable t.late lane → ⊥
-no_log_left t b p at lane none reads = absurd (false≢true (subst (λ r. is_ok r ≡ true) none.fault (reads (crash_image lane) (image_left lane))))
+-- so no crash leaves lanes without a log
+pub no_log_left : HoldsWhatIsFound → (t : TopologyView) (b p at : ℕ) (ls : Lanes) → LeavesNoLog t b p at ls → IsReadable t.late ls → ⊥
+no_log_left holds t b p at ls none reads =
+    let x = crash_image ls.first in
+    let y = crash_image ls.second in
+    absurd (false≢true (subst (λ r. is_ok r ≡ true)
+    (holds t.late x y ∙ ap (λ (r : Result Found ℕ). r >>= λ f. Ok f.state) none.fault)
+    (reads x y (image_left ls.first, image_left ls.second))))
 
 -- The world with other brokers, and another word on which is down
 abbrev pub with_brokers : WorldView → List BrokerView → Option ℕ → WorldView
@@ -70,31 +79,34 @@ with_brokers w brokers down = record {
 
 module _ (t : TopologyView) (b : ℕ) (before after : ℕ → Lane) (touches : TouchesLanes t b before after) where
   -- those of publishers elsewhere stay
-  pub lane_stays : (p : ℕ) → host_of t p ≢ b → after (2 * p) ≡ before (2 * p)
-  lane_stays p n = touches.others (2 * p) (λ q i at. lanes_apart t p q (host_of t p) b refl at n)
+  pub lane_stays : (p : ℕ) → host_of t p ≢ b → lanes_at after (log_lane p) ≡ lanes_at before (log_lane p)
+  lane_stays p n =
+      lanes_same before after (log_lane p)
+      (touches.others (log_lane p) (λ q i at. (lanes_apart t p q (host_of t p) b refl at n).0))
+      (touches.others (suc (log_lane p)) (λ q i at. (lanes_apart t p q (host_of t p) b refl at n).1))
 
-  -- and all read as logs still
-  pub all_readable : ((p : ℕ) → p < length t.publishers → IsReadable t.late (before (2 * p))) → (p : ℕ) → p < length t.publishers → IsReadable t.late (after (2 * p))
+  -- and all hold logs still
+  pub all_readable : ((p : ℕ) → p < length t.publishers → IsReadable t.late (lanes_at before (log_lane p))) → (p : ℕ) → p < length t.publishers → IsReadable t.late (lanes_at after (log_lane p))
   all_readable readable p i = elim (cases_eq (host_of t p) b) [
-    | inl at ↦ still_readable t.late (before (2 * p)) (after (2 * p)) (readable p i) (touches.any_moment p i at)
-    | inr n ↦ subst (λ (lane : Lane). IsReadable t.late lane) (sym (lane_stays p n)) (readable p i)
+    | inl at ↦ still_readable t.late (lanes_at before (log_lane p)) (lanes_at after (log_lane p)) (readable p i) (touches.any_moment p i at)
+    | inr n ↦ subst (λ (ls : Lanes). IsReadable t.late ls) (sym (lane_stays p n)) (readable p i)
   ]
 
 -- where it has not started it is down, and the lanes of the others fit
-down_lanes : (w : WorldView) (b : ℕ) (before after : ℕ → Lane) → TouchesLanes w.topo b before after → ((p : ℕ) → p < length w.topo.publishers → IsReadable w.topo.late (before (2 * p)))
-    → ((p : ℕ) (l : LogView) → p < length w.topo.publishers → host_of w.topo p ≢ b → log_at w p ≡ Some l → LaneFits l (before (2 * p)))
+down_lanes : (w : WorldView) (b : ℕ) (before after : ℕ → Lane) → TouchesLanes w.topo b before after → ((p : ℕ) → p < length w.topo.publishers → IsReadable w.topo.late (lanes_at before (log_lane p)))
+    → ((p : ℕ) (l : LogView) → p < length w.topo.publishers → host_of w.topo p ≢ b → log_at w p ≡ Some l → LaneFits l (lanes_at before (log_lane p)))
     → LanesFit after (with_brokers w w.brokers (Some b))
 down_lanes w b before after touches readable others = record {
   logs = λ unspent p l i up e.
       let n : host_of w.topo p ≢ b = λ at. up (ap (λ (c : ℕ). Some c) (sym at)) in
-      subst (λ (lane : Lane). LaneFits l lane) (sym (lane_stays w.topo b before after touches p n)) (others p l i n e);
+      subst (λ (ls : Lanes). LaneFits l ls) (sym (lane_stays w.topo b before after touches p n)) (others p l i n e);
   readable = λ unspent p i. all_readable w.topo b before after touches readable p i;
 }
 
 -- the same of a world by what it is
 pub failed_lanes : (w : WorldView) (b : ℕ) (brokers : List BrokerView) (down : Option ℕ) (before after : ℕ → Lane) → brokers ≡ w.brokers → down ≡ Some b → TouchesLanes w.topo b before after
-    → ((p : ℕ) → p < length w.topo.publishers → IsReadable w.topo.late (before (2 * p)))
-    → ((p : ℕ) (l : LogView) → p < length w.topo.publishers → host_of w.topo p ≢ b → log_at w p ≡ Some l → LaneFits l (before (2 * p)))
+    → ((p : ℕ) → p < length w.topo.publishers → IsReadable w.topo.late (lanes_at before (log_lane p)))
+    → ((p : ℕ) (l : LogView) → p < length w.topo.publishers → host_of w.topo p ≢ b → log_at w p ≡ Some l → LaneFits l (lanes_at before (log_lane p)))
     → LanesFit after (with_brokers w brokers down)
 failed_lanes w b brokers down before after same is touches readable others =
     subst (λ (bs : List BrokerView). LanesFit after (with_brokers w bs down)) (sym same)
@@ -224,24 +236,29 @@ module _ (w : WorldView) (b : ℕ) (brokers : List BrokerView) (told : List Repo
   -- Its lanes
 
   module _ (before after : ℕ → Lane) (opens : OpensAgain w.topo b brokers before after) where
-    lane_opened : (p : ℕ) (l : LogView) → host_of w.topo p ≡ b → log_at again p ≡ Some l → Opens w.topo.late (crashed (before (2 * p))) (after (2 * p)) (Ok l)
+    lane_opened : (p : ℕ) (l : LogView) → host_of w.topo p ≡ b → log_at again p ≡ Some l → Opens w.topo.late (log_lane p) (crashed_lanes (lanes_at before (log_lane p))) (lanes_at after (log_lane p)) (Ok l)
     lane_opened p l at e = opens p l (sym (ap (λ (c : ℕ). log_in (broker_in again c) p) at) ∙ e)
 
     -- the logs are those that the crash left
-    pub again_found : (p : ℕ) → p < length w.topo.publishers → host_of w.topo p ≡ b → IsRead w.topo.late (log_at again p) (crash_image (before (2 * p)))
+    pub again_found : (p : ℕ) → p < length w.topo.publishers → host_of w.topo p ≡ b → IsLeft w.topo.late (log_at again p) (lanes_at before (log_lane p))
     again_found p i at =
         let l = hosted_log w.topo b the_broker x.started.fits x.started.number p i at in
         let e = log_here p at ∙ l.1 in
-        is_read w.topo.late (log_at again p) l.0 (crash_image (before (2 * p))) e (lane_opened p l.0 at e).gives
+        let ls = lanes_at before (log_lane p) in
+        is_read w.topo.late (log_at again p) l.0 (log_lane p) (crash_image ls.first) (crash_image ls.second) e (x.started.fits.lanes p l.0 l.1) (lane_opened p l.0 at e).gives
 
     -- and the lanes fit them
-    pub again_lanes : TouchesLanes w.topo b before after → ((p : ℕ) → p < length w.topo.publishers → IsReadable w.topo.late (before (2 * p)))
-        → ((p : ℕ) (l : LogView) → p < length w.topo.publishers → host_of w.topo p ≢ b → log_at w p ≡ Some l → LaneFits l (before (2 * p)))
+    pub again_lanes : TouchesLanes w.topo b before after → ((p : ℕ) → p < length w.topo.publishers → IsReadable w.topo.late (lanes_at before (log_lane p)))
+        → ((p : ℕ) (l : LogView) → p < length w.topo.publishers → host_of w.topo p ≢ b → log_at w p ≡ Some l → LaneFits l (lanes_at before (log_lane p)))
         → LanesFit after again
     again_lanes touches readable others = record {
       logs = λ unspent p l i up e. elim (cases_eq (host_of w.topo p) b) [
-        | inl at ↦ let o = lane_opened p l at e in record { ready = λ whole. subst (λ (late : List ℕ). Stands (after (2 * p)) late l.records) (sym (x.started.fits.late p l (sym (log_here p at) ∙ e))) o.stands; reserved = o.reserved; unset = o.unset refl }
-        | inr n ↦ subst (λ (lane : Lane). LaneFits l lane) (sym (lane_stays w.topo b before after touches p n)) (others p l i n (sym (log_there p n) ∙ e))
+        | inl at ↦
+            let old = crashed_lanes (lanes_at before (log_lane p)) in
+            let new = lanes_at after (log_lane p) in
+            let o = lane_opened p l at e in
+            record { ready = λ whole. o.stands; reserved = opens_reserved w.topo.late (log_lane p) old new l o; unset = opens_unset w.topo.late (log_lane p) old new l o (record { first = refl; second = refl }) }
+        | inr n ↦ subst (λ (ls : Lanes). LaneFits l ls) (sym (lane_stays w.topo b before after touches p n)) (others p l i n (sym (log_there p n) ∙ e))
       ];
       readable = λ unspent p i. all_readable w.topo b before after touches readable p i;
     }

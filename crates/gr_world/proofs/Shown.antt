@@ -1,8 +1,8 @@
--- What is shown, line by line: a publisher's log by the four numbers that its records stand for, and a broker's horizon as it is kept
+-- What is shown, line by line: a publisher's log by its numbers and how many events it has past its cut, and a broker's horizon as it is kept
 use Rattle.std.proofs.Common.{◌≡◌, ℕ, ◌+◌, ◌<◌, List, [], ◌∷◌, ◌++◌, length, map, get_or, flat_map, Option, Some, sym, ap, ◌∙◌, subst, arith}
 use Rattle.std.proofs.lemmas.List.{get_or_read, length-map}
-use Rattle.gr_publog.specs.State.{first_standing, state_of, live_events, Follow}
-use Rattle.gr_publog.specs.Crash.{LogView}
+use Rattle.gr_publog.specs.State.{IsState}
+use Rattle.gr_publog.specs.Views.{LogView}
 use Rattle.gr_topo.specs.Topology.{host_of}
 use Rattle.gr_model.specs.declared.report.Report.{Report}
 use Rattle.gr_model.specs.declared.report.Report.TheVariants as line
@@ -24,9 +24,9 @@ log_found w p h =
     let e : 0 + p ≡ p = omega arith in
     at_number (λ q. log_said (log_at w q)) 0 (length w.topo.publishers) p empty_log h ∙ ap (λ q. log_said (log_at w q)) e
 
--- its line says the numbers of its records, and how many of its events are past the cut
-pub log_line : (w : WorldView) (p last settled cut kept : ℕ) (l : LogView) → p < length w.topo.publishers → log_at w p ≡ Some l → Follow (first_standing l.late) l.records
-    → last ≡ (state_of l.records).last → settled ≡ (state_of l.records).settled → cut ≡ (state_of l.records).cut → kept ≡ length (live_events l.records)
+-- its line says its numbers, and how many events it has past its cut
+pub log_line : (w : WorldView) (p last settled cut kept : ℕ) (l : LogView) → p < length w.topo.publishers → log_at w p ≡ Some l → IsState l.state → last ≡ l.state.last → settled ≡ l.state.settled → cut ≡ l.state.cut
+    → kept ≡ length l.state.events
     → line.LogOf p last settled cut kept ≡ log_shown (world_of w) p
 log_line w p last settled cut kept l h at f e1 e2 e3 e4 =
     line_of_log p last settled cut kept l f e1 e2 e3 e4

@@ -1,6 +1,6 @@
 -- The machine's publish that stops is its host's start over the logs that are left: those that there were, with the event where
 -- it is kept.
-use Rattle.std.proofs.Common.{◌≡◌, ◌≢◌, ℕ, zero, suc, ◌+◌, ◌<◌, ◌≤◌, max, Bool, true, false, ◌&&◌, List, [], ◌∷◌, length, map, get_or, set, Some, None, refl, sym, ap, ◌∙◌, subst, arith, eq-eqb}
+use Rattle.std.proofs.Common.{◌≡◌, ◌≢◌, ℕ, zero, suc, ◌+◌, ◌-◌, ◌<◌, ◌≤◌, max, Bool, true, false, ◌&&◌, List, [], ◌∷◌, length, map, get_or, set, Some, None, refl, sym, ap, ◌∙◌, subst, arith, eq-eqb}
 use Rattle.std.specs.Prelude.{nat_eq, nat_le, if◌then◌else◌}
 use Rattle.std.proofs.lemmas.Bool.{ne_eqb, eqb-true, leb-true}
 use Rattle.std.proofs.lemmas.List.{get_or-set_same}
@@ -106,12 +106,12 @@ module _ (net : Net) (w : World) (n p number : ℕ) (stop : Stop) (e : Event) wh
 
   -- else the host starts over the logs that are left
   stopped_told : (tick : ℕ) → not_empty (net.subscribers_at (net.host p)) ≡ false → tick_in (log_of w p) number w.clock ≡ Some tick
-      → publish_stopped net w n p number stop e ≡ told_by tick (let log : Log = log_of w p in is_kept log.gate stop.call stop.pick)
+      → publish_stopped net w n p number stop e ≡ told_by tick (let log : Log = log_of w p in is_kept (log.size - 1) stop.call stop.pick)
   unfolding publish_stopped_by
   stopped_told tick alone some =
       let log = log_of w p in
       let t = test_some (nat_eq number (suc log.last) && nat_le (max (suc log.settled) w.clock) max_tick) (max (suc log.settled) w.clock) tick some in
-      (rw (publish_stopped_by, alone, t.0) refl) ∙ ap (λ (k : ℕ). told_by k (is_kept log.gate stop.call stop.pick)) t.1
+      (rw (publish_stopped_by, alone, t.0) refl) ∙ ap (λ (k : ℕ). told_by k (is_kept (log.size - 1) stop.call stop.pick)) t.1
 
   -- it is the last one where the event is kept, and only there
   kept_last : (tick : ℕ) (kept : Bool) → p < length w.logs → tick_in (log_of w p) number w.clock ≡ Some tick
@@ -125,10 +125,10 @@ module _ (net : Net) (w : World) (n p number : ℕ) (stop : Stop) (e : Event) wh
 
   pub stopped_is : (tick : ℕ) → p < length w.logs → not_empty (net.subscribers_at (net.host p)) ≡ false → tick_in (log_of w p) number w.clock ≡ Some tick
       → publish_stopped net w n p number stop e
-      ≡ stopped_over net w (net.host p) p number tick (logs_left w p tick e (let log : Log = log_of w p in is_kept log.gate stop.call stop.pick))
+      ≡ stopped_over net w (net.host p) p number tick (logs_left w p tick e (let log : Log = log_of w p in is_kept (log.size - 1) stop.call stop.pick))
   stopped_is tick lt alone some =
       let log = log_of w p in
-      let kept = is_kept log.gate stop.call stop.pick in
+      let kept = is_kept (log.size - 1) stop.call stop.pick in
       stopped_told tick alone some
       ∙ sym (ap (λ (b : Bool). record {
         world = restarted net (with_logs w (logs_left w p tick e kept)) (net.host p);

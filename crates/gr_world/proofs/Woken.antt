@@ -1,12 +1,12 @@
 -- A wake within a step: at the publisher's host it is the machine's over the log there; elsewhere the broker has no log, and the
 -- machine's wake looks at none
-use Rattle.std.proofs.Common.{◌≡◌, ◌≢◌, ◌⊎◌, inl, inr, ℕ, ◌*◌, ◌<◌, true, false, List, length, set, Option, Some, None, Result, Ok, Err, OnOk, refl, sym, ap, ◌∙◌, subst, OnErr, ap₂}
+use Rattle.std.proofs.Common.{◌≡◌, ◌≢◌, ◌⊎◌, inl, inr, ℕ, suc, ◌<◌, true, false, List, length, set, Option, Some, None, Result, Ok, Err, OnOk, refl, sym, ap, ◌∙◌, subst, OnErr, ap₂}
 use Rattle.std.specs.Prelude.{◌↔◌, IsSome, is_some, IfOk, IsErrOf}
 use Rattle.std.proofs.lemmas.Bool.{cases_eq, eq-eqb, ne_eqb, true≢false}
 use Rattle.std.proofs.lemmas.List.{length-set, get_or-set_other}
 use Rattle.gr_publog.specs.declared.record.Record.{Record}
 use Rattle.gr_publog.specs.declared.record.LogFault.TheVariants as log_fault
-use Rattle.gr_publog.specs.Crash.{LogView}
+use Rattle.gr_publog.specs.Views.{LogView, lanes_at, AwayFrom}
 use Rattle.gr_out.specs.Lane.{Lane}
 use Rattle.gr_topo.specs.Topology.{TopologyView, host_of}
 use Rattle.gr_model.specs.declared.report.Report.{Report}
@@ -21,10 +21,11 @@ use Rattle.gr_broker_relay.specs.declared.outcome.Outcome.{Outcome}
 use Rattle.gr_broker_relay.specs.Told.{Tells}
 use Rattle.gr_broker.specs.declared.outcome.BrokerFault.{BrokerFault}
 use Rattle.gr_broker.specs.declared.outcome.BrokerFault.TheVariants as refused
-use Rattle.gr_broker.specs.Seen.{BrokerView, view_in, log_in, log_said, machine_log, with_logged, is_broken, broken_at}
+use Rattle.gr_broker.specs.Lanes.{log_lane}
+use Rattle.gr_broker.specs.Seen.{BrokerView, view_in, log_in, log_said, machine_log, with_logged, with_cut_if, is_broken, broken_at}
 use Rattle.gr_broker.specs.Of.{IsBrokerOf, LogsStand}
 use Rattle.gr_broker.specs.Told.{log_answer}
-use Rattle.gr_broker.specs.Hosted.{wake_at, mark_at, mark_logs_at, cut_logs_at, after_mark, after_wake, WakeLeaves, AppendsTwice, AppendsTwiceAt}
+use Rattle.gr_broker.specs.Hosted.{wake_at, mark_at, mark_logs_at, cut_at, after_mark, after_wake, WakeLeaves, Wakes as WakesBoth, WakesAt}
 use Rattle.gr_report.proofs.Named.{all_of}
 use Rattle.gr_report.proofs.Passing.{wake_passes, tells_on, seen_edges}
 use Rattle.gr_world.specs.declared.fault.WorldFault.{WorldFault}
@@ -37,8 +38,8 @@ use Rattle.gr_world.specs.Ended.{WakeEnds, marked_broken_in}
 use Rattle.gr_world.specs.Ran.{IsOpen, Ran, TouchesOne}
 use Rattle.gr_world.specs.Taking.{Follows, TakesUp, put_in}
 use Rattle.gr_world.proofs.Absorbing.{Touches, view_is, log_is, log_here, log_elsewhere, broker_here, broker_there}
-use Rattle.gr_world.proofs.Answers.{on_ok, ok_answer, ok_follows, spelled_follow, reopen_follows, not_disk, carried_follows, wake_leaves_on, touched, touched_broken, touched_twice, untouched, whole_logged, whole_with, closes, logged_none, log_same, failed_same, reopen_told, disk_follows}
-use Rattle.gr_world.proofs.Lanes.{LaneMoves, twice_moves, lanes_fit}
+use Rattle.gr_world.proofs.Answers.{on_ok, ok_answer, ok_follows, spelled_follow, reopen_follows, not_disk, carried_follows, wake_leaves_on, touched, touched_broken, touched_twice, untouched, whole_logged, whole_cut, whole_with, closes, cut_none, logged_none, log_same, failed_same, reopen_told, disk_follows}
+use Rattle.gr_world.proofs.Lanes.{LaneMoves, wakes_moves, lanes_same, lanes_fit}
 use Rattle.gr_world.proofs.Called.{Called, called_does, Site, site_read, site_fits, site_publisher, site_ran, put_back}
 
 -- What the broker's call gives
@@ -47,14 +48,14 @@ pub record Wakes (t : TopologyView) (x : BrokerView) (p now : ℕ) (after : Brok
   pub leaves : WakeLeaves x (after_mark t x p now) (after_wake t x p now) (broken_at x p) (broken_at (after_mark t x p now) p) after (log_answer answer)
   pub log : OnOk answer (let m : MachineOutcome = wake_at t x p now in machine_log after p ≡ m.log)
   pub fits : IsBrokerOf t after
-  pub reopen : IsErrOf answer refused.Reopen ↔ ((is_broken (log_in x p) ≡ true) × (IsSome (mark_logs_at t x p now) ⊎ IsSome (cut_logs_at t x p now)))
+  pub reopen : IsErrOf answer refused.Reopen ↔ ((is_broken (log_in x p) ≡ true) × (IsSome (mark_logs_at t x p now) ⊎ IsSome (cut_at t x p now)))
 
 -- and does to the lanes
 pub record WakesOn (t : TopologyView) (x : BrokerView) (p now : ℕ) (after : BrokerView) (lanes lanes' : ℕ → Lane) (answer : Result Outcome BrokerFault) : Type 0 where
-  pub lane : AppendsTwiceAt x p (mark_logs_at t x p now) (cut_logs_at t x p now) lanes lanes' (log_answer answer)
+  pub lane : WakesAt x p (mark_logs_at t x p now) (cut_at t x p now) t.settings.reclaim lanes lanes' (log_answer answer)
   pub below : log_in x p ≡ None → (n : ℕ) → lanes' n ≡ lanes n
   pub broken : is_broken (log_in x p) ≡ true → (n : ℕ) → lanes' n ≡ lanes n
-  pub others : (n : ℕ) → n ≢ 2 * p → lanes' n ≡ lanes n
+  pub others : (n : ℕ) → AwayFrom (log_lane p) n → lanes' n ≡ lanes n
   pub stands : LogsStand lanes' after
 
 -- the machine's outcome of a wake
@@ -140,10 +141,10 @@ module _ (w : WorldView) (b p : ℕ) (i : IsWorld w) (lt : b < length w.topo.bro
     whole = λ not whole. on (λ (x : BrokerView). is_broken (log_in x p) ≡ false) whole
         (whole_with p broker log_marked view_marked short (whole_logged (log_in broker p) (mark_logs_at w.topo broker p w.clock)) whole)
         (whole_with p broker log_woken view_woken short
-        (whole_logged (with_logged (log_in broker p) (mark_logs_at w.topo broker p w.clock)) (cut_logs_at w.topo broker p w.clock)
+        (whole_cut (with_logged (log_in broker p) (mark_logs_at w.topo broker p w.clock)) (cut_at w.topo broker p w.clock) w.topo.settings.reclaim
         ∙ whole_logged (log_in broker p) (mark_logs_at w.topo broker p w.clock)) whole)
         (λ h. absurd (not_disk answer result f not h));
-    closed = λ broken. stays broken (mark_logs_at w.topo broker p w.clock) refl (cut_logs_at w.topo broker p w.clock) refl;
+    closed = λ broken. stays broken (mark_logs_at w.topo broker p w.clock) refl (cut_at w.topo broker p w.clock) refl;
     reopen = λ h. (k.reopen.0 (reopen_follows answer result f h)).0;
   }
     where
@@ -154,7 +155,7 @@ module _ (w : WorldView) (b p : ℕ) (i : IsWorld w) (lt : b < length w.topo.bro
       log_marked = with_logged (log_in broker p) (mark_logs_at w.topo broker p w.clock)
 
       log_woken : Option LogView
-      log_woken = with_logged log_marked (cut_logs_at w.topo broker p w.clock)
+      log_woken = with_cut_if log_marked (cut_at w.topo broker p w.clock) w.topo.settings.reclaim
 
       view_marked : View
       view_marked = let o : MachineOutcome = mark_at w.topo broker p w.clock in o.view
@@ -176,12 +177,12 @@ module _ (w : WorldView) (b p : ℕ) (i : IsWorld w) (lt : b < length w.topo.bro
       on P a m b c = wake_leaves_on P broker marked (after_wake w.topo broker p w.clock) (broken_at broker p) (broken_at marked p) after (log_answer answer) k.leaves a m b c
 
       -- a log that the disk has failed stays
-      stays : is_broken (log_in broker p) ≡ true → (mark : Option Record) → mark_logs_at w.topo broker p w.clock ≡ mark → (cut : Option Record) → cut_logs_at w.topo broker p w.clock ≡ cut → log_in after p ≡ log_in broker p
+      stays : is_broken (log_in broker p) ≡ true → (mark : Option Record) → mark_logs_at w.topo broker p w.clock ≡ mark → (cut : Option ℕ) → cut_at w.topo broker p w.clock ≡ cut → log_in after p ≡ log_in broker p
       stays broken (Some r) is cut at = ap (λ (x : BrokerView). log_in x p) (k.leaves.closed (closes answer (k.reopen.1 (broken, inl (ap is_some is)))))
       stays broken None is (Some r) at = ap (λ (x : BrokerView). log_in x p) (k.leaves.closed (closes answer (k.reopen.1 (broken, inr (ap is_some at)))))
       stays broken None is None at =
           let m : log_marked ≡ log_in broker p = ap (λ (r : Option Record). with_logged (log_in broker p) r) is ∙ logged_none (log_in broker p) in
-          let u : log_woken ≡ log_in broker p = ap (λ (r : Option Record). with_logged log_marked r) at ∙ (logged_none log_marked ∙ m) in
+          let u : log_woken ≡ log_in broker p = ap (λ (r : Option ℕ). with_cut_if log_marked r w.topo.settings.reclaim) at ∙ (cut_none log_marked w.topo.settings.reclaim ∙ m) in
           let here : log_in marked p ≡ log_in broker p = log_same p broker log_marked view_marked short m in
           on (λ (x : BrokerView). log_in x p ≡ log_in broker p) refl here (log_same p broker log_woken view_woken short u)
           (λ h. (failed_same p broker short broken, failed_same p marked (subst (λ n. p < n) (sym (length-set broker.logs p log_marked)) short) (ap is_broken here ∙ broken) ∙ here))
@@ -205,14 +206,14 @@ module _ (w : WorldView) (b p : ℕ) (i : IsWorld w) (lt : b < length w.topo.bro
 
   abbrev Logs : Option LogView → (ℕ → Lane) → (ℕ → Lane) → Result Outcome BrokerFault → Type 0
   Logs o lanes lanes' answer = elim o [
-    | Some l ↦ AppendsTwice l (mark_logs_at w.topo broker p w.clock) (cut_logs_at w.topo broker p w.clock) (lanes (2 * p)) (lanes' (2 * p)) (log_answer answer)
+    | Some l ↦ WakesBoth l (mark_logs_at w.topo broker p w.clock) (cut_at w.topo broker p w.clock) w.topo.settings.reclaim (lanes_at lanes (log_lane p)) (lanes_at lanes' (log_lane p)) (log_answer answer)
     | None ↦ Unit {0}
   ]
 
-  -- the lane of the log is left with its records, or with those and the mark, or with both records
-  moves : (o : Option LogView) → log_in broker p ≡ o → (lanes lanes' : ℕ → Lane) (answer : Result Outcome BrokerFault) → Logs o lanes lanes' answer → is_some o ≡ true → (is_broken o ≡ true → lanes' (2 * p) ≡ lanes (2 * p)) → LaneMoves w.topo.late (lanes (2 * p)) (lanes' (2 * p))
+  -- the lanes of the log are left with what it held, or with that and the mark, or with the cut besides
+  moves : (o : Option LogView) → log_in broker p ≡ o → (lanes lanes' : ℕ → Lane) (answer : Result Outcome BrokerFault) → Logs o lanes lanes' answer → is_some o ≡ true → (is_broken o ≡ true → lanes_at lanes' (log_lane p) ≡ lanes_at lanes (log_lane p)) → LaneMoves w.topo.late (lanes_at lanes (log_lane p)) (lanes_at lanes' (log_lane p))
   moves (Some l) is lanes lanes' answer a s quiet =
-      subst (λ (late : List ℕ). LaneMoves late (lanes (2 * p)) (lanes' (2 * p))) ((i.brokers b lt).late p l is) (twice_moves l _ _ (lanes (2 * p)) (lanes' (2 * p)) (log_answer answer) a quiet)
+      wakes_moves w.topo.late l (mark_logs_at w.topo broker p w.clock) (cut_at w.topo broker p w.clock) w.topo.settings.reclaim (lanes_at lanes (log_lane p)) (lanes_at lanes' (log_lane p)) (log_answer answer) ((i.brokers b lt).late p l is) a quiet
   moves None is lanes lanes' answer a s quiet = absurd (true≢false (sym s))
 
   hosted : host_of w.topo p ≡ b → is_some (log_in broker p) ≡ true
@@ -222,7 +223,10 @@ module _ (w : WorldView) (b p : ℕ) (i : IsWorld w) (lt : b < length w.topo.bro
       → WakesOn w.topo broker p w.clock after lanes lanes' answer → Called w b p (wake_in w b p) after frames result → LanesFit lanes' (put_in w b after frames)
   wake_lanes after frames lanes lanes' answer result is_open fit on c =
       lanes_fit w b p after frames lanes lanes' i lt below c.touches is_open fit on.others
-      (λ at. moves (log_in broker p) refl lanes lanes' answer on.lane (hosted at) (λ h. on.broken h (2 * p))) (λ n. on.below (no_log n) (2 * p)) on.stands
+      (λ at. moves (log_in broker p) refl lanes lanes' answer on.lane (hosted at) (λ h. both_same (on.broken h))) (λ n. both_same (on.below (no_log n))) on.stands
+    where
+      both_same : ((n : ℕ) → lanes' n ≡ lanes n) → lanes_at lanes' (log_lane p) ≡ lanes_at lanes (log_lane p)
+      both_same e = lanes_same lanes lanes' (log_lane p) (e (log_lane p)) (e (suc (log_lane p)))
 
 -- The call in code, where the world is seen by its parts
 
@@ -248,7 +252,7 @@ module _ (v w : WorldView) (b p : ℕ) (x after : BrokerView) (frames : List (Li
   -- It is answered `Reopen` exactly where it would append to a broken log, and then nothing has changed
 
   abbrev Barred : BrokerView → Type 0
-  Barred y = (is_broken (log_in y p) ≡ true) × (IsSome (mark_logs_at v.topo y p v.clock) ⊎ IsSome (cut_logs_at v.topo y p v.clock))
+  Barred y = (is_broken (log_in y p) ≡ true) × (IsSome (mark_logs_at v.topo y p v.clock) ⊎ IsSome (cut_at v.topo y p v.clock))
 
   pub reopens_wake : IsErrOf result fault.Reopen ↔ IsWakeBarred w b p
   reopens_wake = (

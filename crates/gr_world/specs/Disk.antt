@@ -1,15 +1,17 @@
 -- What a call that takes the disk does to it
-use Rattle.std.specs.Prelude.{◌≡◌, ◌≢◌, ◌⊎◌, ◌↔◌, ℕ, ◌*◌, ◌≤◌, ◌<◌, true, List, length, Result, Err, IsErrOf}
+use Rattle.std.specs.Prelude.{◌≡◌, ◌≢◌, ◌⊎◌, ◌↔◌, ℕ, ◌≤◌, ◌<◌, true, List, length, Result, Err, IsErrOf}
 use Rattle.std.specs.Prelude.{IsSome}
 use Rattle.gr_event.specs.declared.event.Event.{Event}
 use Rattle.gr_out.specs.Lane.{Lane}
 use Rattle.gr_out.specs.Stops.{StaysFaultless}
 use Rattle.gr_publog.specs.Crash.{EitherRose}
+use Rattle.gr_publog.specs.Views.{AwayFrom}
 use Rattle.gr_sched.specs.declared.step.Step.{Step}
 use Rattle.gr_topo.specs.Topology.{TopologyView, host_of}
 use Rattle.gr_model.specs.declared.report.Report.{Report}
 use Rattle.gr_broker.specs.Seen.{log_in, is_broken}
-use Rattle.gr_broker.specs.Hosted.{publish_logs_at, join_logs_at, mark_logs_at, cut_logs_at}
+use Rattle.gr_broker.specs.Lanes.{log_lane}
+use Rattle.gr_broker.specs.Hosted.{publish_logs_at, join_logs_at, mark_logs_at, cut_at}
 use Rattle.gr_world.specs.declared.fault.WorldFault.{WorldFault}
 use Rattle.gr_world.specs.declared.fault.WorldFault.TheVariants as fault
 use Rattle.gr_world.specs.Seen.{WorldView, broker_in, log_at}
@@ -39,7 +41,7 @@ pub record UsesDisk (faultless faultless' : Type 0) (faults stops faults' stops'
 -- no lane is touched but those of the publishers
 abbrev pub LeavesOthers : TopologyView → (ℕ → Lane) → (ℕ → Lane) → Type 0
 LeavesOthers t before after =
-    (n : ℕ) → ((p : ℕ) → p < length t.publishers → n ≢ 2 * p) → after n ≡ before n
+    (n : ℕ) → ((p : ℕ) → p < length t.publishers → AwayFrom (log_lane p) n) → after n ≡ before n
 
 -- Only an answer that the disk failed leaves a log broken or a broker down; while there is none, nothing has to be
 -- opened again
@@ -66,7 +68,7 @@ abbrev pub IsWakeBarred : WorldView → ℕ → ℕ → Type 0
 IsWakeBarred w b p =
     let x = broker_in w b in
     (is_broken (log_in x p) ≡ true)
-    × (IsSome (mark_logs_at w.topo x p w.clock) ⊎ IsSome (cut_logs_at w.topo x p w.clock))
+    × (IsSome (mark_logs_at w.topo x p w.clock) ⊎ IsSome (cut_at w.topo x p w.clock))
 
 -- a wake for all publishers that would do so for one of them
 pub record BarsWake (w : WorldView) (b : ℕ) : Type 0 where

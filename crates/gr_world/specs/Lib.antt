@@ -1,4 +1,5 @@
 pub mod Seen
+pub mod Lanes
 pub mod Of
 pub mod Steps
 pub mod Disk

@@ -1,16 +1,16 @@
 -- What holds of a world between its calls, and of the lanes that its logs stand on
-use Rattle.std.specs.Prelude.{◌≡◌, ◌≢◌, ℕ, ◌*◌, ◌<◌, ◌≤◌, true, false, length, map, Some, None}
+use Rattle.std.specs.Prelude.{◌≡◌, ◌≢◌, ℕ, ◌<◌, ◌≤◌, false, length, map, Some, None}
 use Rattle.std.specs.List.{AllByRecursion}
 use Rattle.gr_frame.specs.Cut.{AreFrames}
-use Rattle.gr_out.specs.declared.disk.Stop.TheVariants.{Unset}
 use Rattle.gr_out.specs.Lane.{Lane}
 use Rattle.gr_tick.specs.declared.TheConstants.{MAX_TICK}
-use Rattle.gr_publog.specs.Crash.{LogView}
-use Rattle.gr_publog.specs.Calls.{IsReady}
+use Rattle.gr_publog.specs.Views.{LogView, Lanes, lanes_at, IsReady}
 use Rattle.gr_topo.specs.Topology.{host_of}
 use Rattle.gr_model_calls.specs.Edges.{GoesOverEdge}
+use Rattle.gr_broker.specs.Lanes.{log_lane, AreUnset}
 use Rattle.gr_broker.specs.Of.{IsBrokerOf}
 pub use Rattle.gr_report.specs.Readable.{IsReadable}
+use Rattle.gr_world.specs.Lanes.{AreReserved}
 use Rattle.gr_world.specs.Seen.{WorldView, broker_in, log_at, net_in, frame_said}
 
 -- The brokers of the topology, in order, and frames that went over its edges
@@ -25,19 +25,20 @@ pub record IsWorld (w : WorldView) : Type 0 where
   pub most : w.most ≤ MAX_TICK
   pub down : (b : ℕ) → w.down ≡ Some b → b < length w.topo.brokers
 
--- a lane under a log: unless the disk has failed the log, a crash leaves its records. Room was made, and no stop is
--- ordered
-pub record LaneFits (l : LogView) (lane : Lane) : Type 0 where
-  pub ready : IsReady l lane
-  pub reserved : lane.reserved ≡ true
-  pub unset : lane.stop ≡ Unset
+-- two lanes under a log: unless the disk has failed the log, it stands in them, and a crash leaves nothing else. Room
+-- was made in both, and no stop is ordered
+pub record LaneFits (l : LogView) (ls : Lanes) : Type 0 where
+  pub ready : IsReady l ls
+  pub reserved : AreReserved ls
+  pub unset : AreUnset ls
 
 -- The lanes of a world, until memory was refused, after which no call uses them
 pub record LanesFit (lanes : ℕ → Lane) (w : WorldView) : Type 0 where
-  -- each lane fits its log, but for those of a broker whose opening failed
+  -- two lanes fit each log, but for those of a broker whose opening failed
   pub logs : w.spent ≡ false → (p : ℕ) (l : LogView) → p < length w.topo.publishers
-      → w.down ≢ Some (host_of w.topo p) → log_at w p ≡ Some l → LaneFits l (lanes (2 * p))
-  pub readable : w.spent ≡ false → (p : ℕ) → p < length w.topo.publishers → IsReadable w.topo.late (lanes (2 * p))
+      → w.down ≢ Some (host_of w.topo p) → log_at w p ≡ Some l → LaneFits l (lanes_at lanes (log_lane p))
+  pub readable : w.spent ≡ false → (p : ℕ) → p < length w.topo.publishers
+      → IsReadable w.topo.late (lanes_at lanes (log_lane p))
 
 -- the disk has failed no log, and no broker is down
 pub record IsSound (w : WorldView) : Type 0 where

@@ -1,10 +1,10 @@
 -- A world's opening, and a broker's start again, over what the lanes hold
-use Rattle.std.specs.Prelude.{◌≡◌, ◌≢◌, ◌⊎◌, ℕ, ◌*◌, ◌<◌, false, List, [], ◌∷◌, length, flat_map, Option, Some, None}
+use Rattle.std.specs.Prelude.{◌≡◌, ◌≢◌, ◌⊎◌, ℕ, ◌<◌, false, List, [], ◌∷◌, length, flat_map, Option, Some, None}
 use Rattle.std.specs.Prelude.{Result, Ok, IsOk, IsErrOf, OnOk}
 use Rattle.gr_out.specs.declared.disk.Stop.TheVariants.{Unset}
 use Rattle.gr_out.specs.Lane.{Lane, content, crash_image}
-use Rattle.gr_publog.specs.Crash.{LogView}
-use Rattle.gr_publog.specs.Text.{log_text}
+use Rattle.gr_publog.specs.Views.{LogView, Lanes, lanes_at}
+use Rattle.gr_publog.specs.Opens.{OpensAs}
 use Rattle.gr_topo.specs.Topology.{TopologyView, host_of}
 use Rattle.gr_model.specs.declared.report.Report.{Report}
 use Rattle.gr_model.specs.declared.report.Report.TheVariants as line
@@ -12,8 +12,9 @@ use Rattle.gr_model.specs.Net.{Net, numbers}
 use Rattle.gr_model.specs.NetOf.{net_of}
 use Rattle.gr_model.specs.Broker.{Log}
 use Rattle.gr_model.specs.World.{World, Transition, restarted, opened_lines}
+use Rattle.gr_broker.specs.Lanes.{log_lane}
 use Rattle.gr_broker.specs.Seen.{view_in, machine_log}
-use Rattle.gr_broker.specs.Opened.{opened_at, IsDamagedAt}
+use Rattle.gr_broker.specs.Opened.{opened_at, found_at, IsDamagedAt}
 use Rattle.gr_world.specs.declared.fault.WorldFault.{WorldFault}
 use Rattle.gr_world.specs.declared.fault.WorldFault.TheVariants as fault
 use Rattle.gr_world.specs.Seen.{WorldView, broker_in, log_at, net_in, world_of}
@@ -23,14 +24,24 @@ use Rattle.gr_world.specs.Of.{IsSound}
 abbrev pub NoStops : (ℕ → Lane) → Type 0
 NoStops lanes = (n : ℕ) → (lanes n).stop ≡ Unset
 
--- the lanes of all publishers read nothing
-abbrev pub AreEmpty : TopologyView → (ℕ → Lane) → Type 0
-AreEmpty t lanes = (p : ℕ) → p < length t.publishers → content (lanes (2 * p)) ≡ []
+-- two lanes read nothing, and so do those of all publishers
+abbrev pub ReadNothing : Lanes → Type 0
+ReadNothing ls = (content ls.first ≡ []) × (content ls.second ≡ [])
 
--- the log is the one that these bytes say, where these subscribers may join
-abbrev pub IsRead : List ℕ → Option LogView → List ℕ → Type 0
-IsRead late (Some l) bytes = log_text late bytes ≡ Ok l.records
-IsRead late None bytes = ⊥
+abbrev pub AreEmpty : TopologyView → (ℕ → Lane) → Type 0
+AreEmpty t lanes = (p : ℕ) → p < length t.publishers → ReadNothing (lanes_at lanes (log_lane p))
+
+-- the log is the one that is opened over this pair of images, where these subscribers may join
+abbrev pub IsRead : List ℕ → Option LogView → List ℕ → List ℕ → Type 0
+IsRead late (Some l) a b = OpensAs late l.lane a b (Ok l)
+IsRead late None a b = ⊥
+
+-- over what two lanes read, and over what a crash leaves of them
+abbrev pub IsFound : List ℕ → Option LogView → Lanes → Type 0
+IsFound late o ls = IsRead late o (content ls.first) (content ls.second)
+
+abbrev pub IsLeft : List ℕ → Option LogView → Lanes → Type 0
+IsLeft late o ls = IsRead late o (crash_image ls.first) (crash_image ls.second)
 
 -- A world that was opened: each broker has started over the logs that it has, in order
 pub record IsOpened (t : TopologyView) (w : WorldView) : Type 0 where
@@ -63,17 +74,16 @@ crash_over net w b logs = record {
 -- other logs are as they were; over these it is the machine's crash, whether the disk had failed a log or not
 pub record Crashes (b : ℕ) (lanes : ℕ → Lane) (old new : WorldView) (lines : List Report) : Type 0 where
   pub found : (p : ℕ) → p < length old.topo.publishers → host_of old.topo p ≡ b
-      → IsRead old.topo.late (log_at new p) (crash_image (lanes (2 * p)))
+      → IsLeft old.topo.late (log_at new p) (lanes_at lanes (log_lane p))
   pub elsewhere : (p : ℕ) → p < length old.topo.publishers → host_of old.topo p ≢ b → log_at new p ≡ log_at old p
   pub over : (let w : World = world_of new in crash_over (net_in old) (world_of old) b w.logs)
       ≡ record { world = world_of new; lines = lines }
 
--- The lane of a publisher holds no log, with the place of its first fault, and it is the first such publisher: by its
+-- The lanes of a publisher hold no log, with the place of the first fault, and it is the first such publisher: by its
 -- host, and at one host by its number
 pub record IsFirstDamaged (t : TopologyView) (p at : ℕ) (lanes : ℕ → Lane) : Type 0 where
   pub here : IsDamagedAt t (host_of t p) p at lanes
-  pub before : (q : ℕ) → q < length t.publishers → host_of t q < host_of t p
-      → IsOk (log_text t.late (content (lanes (2 * q))))
+  pub before : (q : ℕ) → q < length t.publishers → host_of t q < host_of t p → IsOk (found_at t lanes q)
 
 -- no log is broken but those of one broker, and no other broker is down
 pub record IsSoundBut (b : ℕ) (w : WorldView) : Type 0 where

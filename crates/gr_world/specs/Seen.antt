@@ -1,6 +1,6 @@
 -- What a contract sees of a world
 use Rattle.std.specs.Prelude.{ℕ, Bool, List, [], length, map, get_or, Option}
-use Rattle.gr_publog.specs.Crash.{LogView}
+use Rattle.gr_publog.specs.Views.{LogView}
 use Rattle.gr_topo.specs.Topology.{TopologyView, host_of}
 use Rattle.gr_model.specs.declared.report.Report.{Report}
 use Rattle.gr_model.specs.Net.{Net, numbers}

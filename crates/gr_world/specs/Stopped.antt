@@ -1,13 +1,13 @@
 -- A publish that stops within: the append that is broken, and the host's start over what is left
-use Rattle.std.specs.Prelude.{◌≡◌, ◌≢◌, ◌⊎◌, ℕ, ◌*◌, ◌<◌, suc, max, Bool, false, ◌&&◌, nat_eq, nat_le, List, ◌∷◌}
+use Rattle.std.specs.Prelude.{◌≡◌, ◌≢◌, ◌⊎◌, ℕ, ◌<◌, suc, max, Bool, false, ◌&&◌, nat_eq, nat_le, List, ◌∷◌}
 use Rattle.std.specs.Prelude.{if◌then◌else◌}
 use Rattle.std.specs.Prelude.{length, get_or, Option, Some, None, Result, Ok, Err, IsErrOf, OnOk}
 use Rattle.gr_event.specs.declared.event.Event.{Event}
 use Rattle.gr_out.specs.Lane.{Lane, crash_image}
 use Rattle.gr_publog.specs.declared.record.Record.TheVariants as entry
-use Rattle.gr_publog.specs.Text.{log_text}
-use Rattle.gr_publog.specs.Crash.{LogView}
-use Rattle.gr_publog.specs.Kept.{records_kept}
+use Rattle.gr_publog.specs.Lanes.{lanes_text}
+use Rattle.gr_publog.specs.Views.{LogView, Lanes, lanes_at, found_of}
+use Rattle.gr_publog.specs.Calls.{log_left}
 use Rattle.gr_model.specs.declared.report.Report.{Report}
 use Rattle.gr_model.specs.declared.report.Report.TheVariants as line
 use Rattle.gr_model.specs.Net.{Net}
@@ -15,13 +15,14 @@ use Rattle.gr_model.specs.Broker.{Log, empty_log, max_tick}
 use Rattle.gr_model.specs.World.{World, Transition, restarted, opened_lines}
 use Rattle.gr_broker.specs.declared.outcome.BrokerFault.{BrokerFault}
 use Rattle.gr_broker.specs.declared.outcome.BrokerFault.TheVariants as refused
+use Rattle.gr_broker.specs.Lanes.{log_lane}
 use Rattle.gr_broker.specs.Seen.{broken_at}
 use Rattle.gr_world.specs.declared.fault.WorldFault.{WorldFault}
 use Rattle.gr_world.specs.declared.fault.WorldFault.TheVariants as fault
 use Rattle.gr_topo.specs.Topology.{host_of}
 use Rattle.gr_world.specs.Seen.{WorldView, broker_in, log_at, net_in, world_of}
 use Rattle.gr_world.specs.Of.{IsWorld, IsReadable, IsSound}
-use Rattle.gr_world.specs.Opened.{IsRead, with_logs, with_down, IsSoundBut}
+use Rattle.gr_world.specs.Opened.{IsLeft, with_logs, with_down, IsSoundBut}
 use Rattle.gr_world.specs.Steps.{Stays, IsCarried, NotMemory}
 use Rattle.gr_world.specs.Disk.{StaysSound}
 use Rattle.gr_world.specs.Taking.{put_in}
@@ -34,7 +35,7 @@ tick_in log number now =
 
 -- The publish up to the stop. Its answer is Ok None where the stop broke it
 
--- it was the stop that broke a publish, given whether its lane is stopped
+-- it was the stop that broke a publish, given whether one of its lanes is stopped
 abbrev pub is_broken_by : {T : Type 0} → Result T BrokerFault → Bool → Bool
 is_broken_by (Err refused.Disk) stopped = stopped
 is_broken_by _ stopped = false
@@ -53,12 +54,18 @@ broken_in w b p = put_in w b (broken_at (broker_in w b) p) w.frames
 abbrev pub BreaksStopped : ℕ → ℕ → WorldView → WorldView → Type 0
 BreaksStopped b p old new = (new ≡ broken_in old b p) ⊎ (new ≡ with_down (broken_in old b p) b)
 
--- What a stop leaves of the lane of a publisher, whose event was to be logged at a tick: the call and the pick tell
--- whether the image that a crash leaves has its record
-pub record IsStoppedAt (w : WorldView) (p tick number : ℕ) (e : Event) (call pick : ℕ) (lane : Lane) : Type 0 where
-  pub image : (l : LogView) → log_at w p ≡ Some l
-      → log_text w.topo.late (crash_image lane) ≡ Ok (records_kept l.records (entry.Event tick number e) call pick)
-  pub readable : IsReadable w.topo.late lane
+-- the log that a stop leaves of this one, which an event was to be logged in: the call and the pick tell whether it has
+-- the event
+abbrev pub stopped_log : LogView → ℕ → ℕ → Event → ℕ → ℕ → LogView
+stopped_log l tick number e call pick = log_left l (Some (entry.Event tick number e)) call pick
+
+-- What a stop leaves of the lanes of a publisher, whose event was to be logged at a tick: the images that a crash
+-- leaves stand for that log
+pub record IsStoppedAt (w : WorldView) (p tick number : ℕ) (e : Event) (call pick : ℕ) (ls : Lanes) : Type 0 where
+  pub images : (l : LogView) → log_at w p ≡ Some l
+      → lanes_text w.topo.late (crash_image ls.first) (crash_image ls.second)
+      ≡ Ok (found_of (stopped_log l tick number e call pick))
+  pub readable : IsReadable w.topo.late ls
 
 -- The host's start
 
@@ -81,9 +88,9 @@ stopped_over net w b p number tick logs =
 pub record StopsOver (p tick number : ℕ) (e : Event) (call pick : ℕ) (lanes : ℕ → Lane) (old new : WorldView)
     (lines : List Report) : Type 0 where
   pub own : (l m : LogView) → log_at old p ≡ Some l → log_at new p ≡ Some m
-      → m.records ≡ records_kept l.records (entry.Event tick number e) call pick
+      → found_of m ≡ found_of (stopped_log l tick number e call pick)
   pub found : (q : ℕ) → q < length old.topo.publishers → q ≢ p → host_of old.topo q ≡ host_of old.topo p
-      → IsRead old.topo.late (log_at new q) (crash_image (lanes (2 * q)))
+      → IsLeft old.topo.late (log_at new q) (lanes_at lanes (log_lane q))
   pub elsewhere : (q : ℕ) → q < length old.topo.publishers → host_of old.topo q ≢ host_of old.topo p
       → log_at new q ≡ log_at old q
   pub over : (let w : World = world_of new in let b = host_of old.topo p in

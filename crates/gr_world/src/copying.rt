@@ -36,6 +36,7 @@ fn copy_report(alloc: Global, line: &Report) -> Result<Report, Memory>
         Lost { publisher, number, tick }
         Mark { publisher, tick }
         Cut { publisher, tick }
+        Reclaimed { publisher, generation }
         Got { subscriber, publisher, tick; event: event.share() }
         Horizon { subscriber, publisher, tick }
         Ordered { subscriber, publisher, tick; event: event.share() }

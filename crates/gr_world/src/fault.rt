@@ -18,7 +18,7 @@ pub enum WorldFault {
     Disk,
     /// The call would append to a log that the disk has failed, or a broker is down since its opening failed.
     Reopen,
-    /// The lane of a publisher holds no log; the place of the first fault, counted from 0 in bytes.
+    /// The lanes of a publisher hold no log; the place of the first fault, counted from 0 in bytes.
     Damaged { publisher: u16, at: u64 },
     /// The broker to be crashed hosts a subscriber. Nothing has changed.
     HostsSubscriber { broker: u16 },

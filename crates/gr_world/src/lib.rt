@@ -13,6 +13,7 @@
 //! | `steps` | The steps `publish`, `join`, `wake` and `deliver`. | `Makes` and `Refuses` in `Steps`, `Disk` |
 //! | `calls` | One broker's call within a step. | `publish_now`, `join_now`, `wake_for`, `deliver_frame`; `Ran` |
 //! | `sending` | Takes up what a call tells and sends: frames are numbered and kept. | `sent_lines`; `Taking` |
+//! | `pair` | Orders a stop on both lanes of a log, and crashes both. | `Lanes` |
 //! | `stopping` | A publish that stops inside: its host crashes and starts again. | `publish_stopped`; `Stopped` |
 //! | `sweeping` | A sweep: three phases for each publisher. | `sweep_moment`, `sweep_for`; `Sweeps` |
 //! | `delivering` | Delivers what is sent in a sweep, upward and down. | `deliver_up`, `hand_down`; `Sweeps` |
@@ -34,6 +35,7 @@ mod heads;
 pub mod law;
 mod opening;
 mod order;
+mod pair;
 mod sending;
 mod showing;
 mod starting;

@@ -1,19 +1,19 @@
 //! A world is opened over a disk, and a broker crashes and starts again.
 
-ghost use Rattle.std.specs.Prelude.{◌≡◌, ◌≢◌, ◌⊎◌, ℕ, ◌*◌, ◌<◌, true, false, [], ◌∷◌, length, Some, None, Err, IsErrOf};
+ghost use Rattle.std.specs.Prelude.{◌≡◌, ◌≢◌, ◌⊎◌, ℕ, ◌<◌, true, false, [], ◌∷◌, length, Some, None, Err, IsErrOf};
 ghost use Rattle.std.specs.Prelude.{IsSome, IfOk, OnOk};
-ghost use Rattle.gr_out.specs.Lane.{content, crash_image};
 ghost use Rattle.gr_out.specs.Stops.{StaysFaultless};
 ghost use Rattle.gr_sched.specs.declared.step.Step.TheVariants as step;
 ghost use Rattle.gr_topo.specs.Topology.{host_of, subscribers_of, not_empty};
 ghost use Rattle.gr_model.specs.NetOf.{net_of};
 ghost use Rattle.gr_model.specs.declared.report.Report.TheVariants as line;
-ghost use Rattle.gr_model.specs.World.{World as MachineWorld, start, crash};
+ghost use Rattle.gr_model.specs.World.{World as MachineWorld, start_by, crash};
+ghost use Rattle.gr_broker.specs.Lanes.{log_lane};
 ghost use Rattle.gr_broker.specs.Opened.{LosesNothing};
 ghost use Rattle.gr_world.specs.Seen.{net_in, world_of, log_at};
-ghost use Rattle.gr_publog.specs.Crash.{LogView};
+ghost use Rattle.gr_publog.specs.Views.{LogView, lanes_at};
 ghost use Rattle.gr_world.specs.Of.{IsWorld, LaneFits, IsReadable, LanesFit, IsSound};
-ghost use Rattle.gr_world.specs.Opened.{NoStops, AreEmpty, IsRead, IsOpened, IsSoundBut, Restarts, restart_over};
+ghost use Rattle.gr_world.specs.Opened.{NoStops, AreEmpty, IsFound, IsLeft, IsOpened, IsSoundBut, Restarts, restart_over};
 ghost use Rattle.gr_world.specs.Opened.{with_down, Crashes, IsFirstDamaged};
 ghost use Rattle.gr_world.specs.Steps.{Makes, Refuses, Spends, Stays, Does, IsCarried, refused_at};
 ghost use Rattle.gr_world.specs.Disk.{Counts, StaysSound, NotDisk, UsesDisk, LeavesOthers};
@@ -27,6 +27,7 @@ use gr_broker::BrokerFault;
 use gr_model::topologies::every_topology_is_a_tree;
 use gr_model::{Report, Reports};
 use gr_out::SimDisk;
+use gr_publog::law::{holds_what_is_found, stands_found, stands_read};
 use gr_store::FrameStore;
 use gr_topo::Topology;
 use std::alloc::Global;
@@ -67,7 +68,7 @@ fn crash_lines(alloc: Global, b: u16, mut opened: Reports) -> Result<Reports, Me
 impl World {
     /// Opens a world over a disk: each broker starts, in order, over the logs that its lanes hold. The clock is 0.
     ///
-    /// `Damaged` names the first publisher, broker by broker, whose lane holds no log. `Disk` only where the disk
+    /// `Damaged` names the first publisher, broker by broker, whose lanes hold no log. `Disk` only where the disk
     /// failed in this call. No other fault but `Memory` comes. After each fault the lanes hold what they held.
     pub fn new<D: SimDisk>(
         alloc: Global,
@@ -78,10 +79,10 @@ impl World {
         ensures fits { IfOk result IsWorld }
         // The logs are those that the lanes hold
         ensures found { IfOk result (λ w. (p : ℕ) → p < length topology.publishers
-            → IsRead topology.late (log_at w p) (content (D.lane_of disk.old (2 * p)))) }
+            → IsFound topology.late (log_at w p) (lanes_at (D.lane_of disk.old) (log_lane p))) }
         // Over empty lanes it is the machine's world before the first step, and nothing is told
         ensures fresh { AreEmpty topology (D.lane_of disk.old)
-            → IfOk result (λ w. (world_of w ≡ start (net_of topology)) × (w.told ≡ [])) }
+            → IfOk result (λ w. (world_of w ≡ start_by true (net_of topology)) × (w.told ≡ [])) }
         // so that it fits a run of no steps
         ensures fits_nothing { NoStops (D.lane_of disk.old) → AreEmpty topology (D.lane_of disk.old)
             → IfOk result (λ w. Fits w (D.lane_of disk.new) [] ([] ∷ [])) }
@@ -90,7 +91,8 @@ impl World {
         // After a fault too no lane is touched but those of the publishers, and these have lost nothing at any moment
         ensures others { LeavesOthers topology (D.lane_of disk.old) (D.lane_of disk.new) }
         ensures any_moment { (p : ℕ) → p < length topology.publishers
-            → LosesNothing topology.late (D.lane_of disk.old (2 * p)) (D.lane_of disk.new (2 * p)) }
+            → LosesNothing topology.late (lanes_at (D.lane_of disk.old) (log_lane p))
+            (lanes_at (D.lane_of disk.new) (log_lane p)) }
         ensures never_reopen { result ≢ Err WorldFault.Reopen }
         ensures carried { (b s at : ℕ) → (result ≢ Err (WorldFault.HostsSubscriber b))
             × ((result ≢ Err (WorldFault.NoFrame s)) × (result ≢ Err (WorldFault.ClockRange at))) }
@@ -101,8 +103,9 @@ impl World {
             → result ≢ Err WorldFault.Disk }
         ensures lanes { NoStops (D.lane_of disk.old) → IfOk result (λ w. LanesFit (D.lane_of disk.new) w) }
     {
-        // Proof only: the topology is a tree.
+        // Proof only: the topology is a tree, and lanes in which a log stands hold it.
         every_topology_is_a_tree(&topology);
+        stands_read();
         let opened = match start_brokers(alloc, &topology, disk) {
             Ok(opened) => opened,
             Err(fault) => return Err(world_fault(fault)),
@@ -134,16 +137,17 @@ impl World {
         requires unspent { self.old.spent ≡ false }
         requires down { (self.old.down ≡ None) ⊎ (self.old.down ≡ Some b) }
         requires readable { (p : ℕ) → p < length self.old.topo.publishers
-            → IsReadable self.old.topo.late (D.lane_of disk.old (2 * p)) }
+            → IsReadable self.old.topo.late (lanes_at (D.lane_of disk.old) (log_lane p)) }
         requires others { (p : ℕ) (l : LogView) → p < length self.old.topo.publishers
-            → host_of self.old.topo p ≢ b → log_at self.old p ≡ Some l → LaneFits l (D.lane_of disk.old (2 * p)) }
+            → host_of self.old.topo p ≢ b → log_at self.old p ≡ Some l
+            → LaneFits l (lanes_at (D.lane_of disk.old) (log_lane p)) }
         ensures does { Does (let w : MachineWorld = world_of self.new in
             restart_over (net_in self.old) (world_of self.old) b w.logs) self.new result }
         ensures restarts { Restarts b self.old self.new result }
         // The logs of the broker are those that the crash left
         ensures found { let late = self.old.topo.late in OnOk result ((p : ℕ) → p < length self.old.topo.publishers
             → host_of self.old.topo p ≡ b
-            → IsRead late (log_at self.new p) (crash_image (D.lane_of disk.old (2 * p)))) }
+            → IsLeft late (log_at self.new p) (lanes_at (D.lane_of disk.old) (log_lane p))) }
         ensures fits { IsWorld self.new }
         ensures faults { (e : WorldFault) → result ≡ Err e → (e ≡ WorldFault.Memory) ⊎ (e ≡ WorldFault.Disk) }
         ensures counts { Counts (D.faults disk.old) (D.stops disk.old) (D.faults disk.new) (D.stops disk.new) result }
@@ -154,6 +158,8 @@ impl World {
         // but after want of memory, when no call uses the lanes any more
         ensures lanes { (result ≢ Err WorldFault.Memory) → LanesFit (D.lane_of disk.new) self.new }
     {
+        // Proof only: what two lanes hold is what they stand for.
+        holds_what_is_found();
         match start_again(self.alloc, &self.topology, &mut self.brokers, disk, b) {
             Ok(lines) => {
                 self.down = None;
@@ -193,6 +199,8 @@ impl World {
         ensures others { LeavesOthers self.old.topo (D.lane_of disk.old) (D.lane_of disk.new) }
         ensures lanes { (result ≢ Err WorldFault.Memory) → LanesFit (D.lane_of disk.new) self.new }
     {
+        // Proof only: what a crash leaves of lanes in which a log stands stands for it.
+        stands_found();
         let opened = match self.restart(disk, b) {
             Ok(opened) => opened,
             Err(fault) => return Err(fault),

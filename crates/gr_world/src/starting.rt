@@ -1,17 +1,20 @@
 //! Brokers start over the logs that their lanes hold: all of them, or one again after its lanes have crashed.
 
-ghost use Rattle.std.specs.Prelude.{◌≡◌, ◌≢◌, ℕ, ◌*◌, ◌<◌, length, Err, IfOk, OnOk, OnErr};
-ghost use Rattle.gr_out.specs.Lane.{crashed};
+ghost use Rattle.std.specs.Prelude.{◌≡◌, ◌≢◌, ℕ, ◌<◌, length, Err, IfOk, OnOk, OnErr};
 ghost use Rattle.gr_out.specs.Stops.{StaysFaultless};
 ghost use Rattle.gr_publog.specs.Calls.{Tally};
+ghost use Rattle.gr_publog.specs.Views.{lanes_at, AwayFrom};
 ghost use Rattle.gr_topo.specs.Topology.{IsTopology, host_of};
+ghost use Rattle.gr_broker.specs.Lanes.{log_lane};
 ghost use Rattle.gr_broker.specs.Told.{log_answer};
 ghost use Rattle.gr_broker.specs.Opened.{LosesNothing};
 ghost use Rattle.gr_world.specs.Disk.{LeavesOthers};
 ghost use Rattle.gr_world.specs.Opened.{NoStops, IsFirstDamaged};
+ghost use Rattle.gr_world.specs.Lanes.{crashed_lanes};
 ghost use Rattle.gr_world.specs.Starting.{HaveStarted, HaveOpened, CrashesLanes, IsExchanged, OpensAgain, TouchesLanes};
 ghost use Rattle.gr_world.specs.Starting.{LeavesNoLog};
 
+use crate::pair::crash_both;
 use gr_broker::{Broker, BrokerFault};
 use gr_model::Reports;
 use gr_out::SimDisk;
@@ -27,7 +30,7 @@ pub(crate) struct Opening {
     pub told: Reports,
 }
 
-/// Starts all brokers, in order. `Damaged` names the first publisher, broker by broker, whose lane holds no log.
+/// Starts all brokers, in order. `Damaged` names the first publisher, broker by broker, whose lanes hold no log.
 pub(crate) fn start_brokers<D: SimDisk>(
     alloc: Global,
     topology: &Topology,
@@ -41,7 +44,8 @@ pub(crate) fn start_brokers<D: SimDisk>(
         → IsFirstDamaged topology.now p at (D.lane_of disk.old) }
     ensures others { LeavesOthers topology.now (D.lane_of disk.old) (D.lane_of disk.new) }
     ensures any_moment { (p : ℕ) → p < length topology.now.publishers
-        → LosesNothing topology.now.late (D.lane_of disk.old (2 * p)) (D.lane_of disk.new (2 * p)) }
+        → LosesNothing topology.now.late (lanes_at (D.lane_of disk.old) (log_lane p))
+        (lanes_at (D.lane_of disk.new) (log_lane p)) }
     ensures never_reopen { result ≢ Err BrokerFault.Reopen }
     ensures tally { let f = D.faults disk.old in let s = D.stops disk.old in
         Tally f s (D.faults disk.new) (D.stops disk.new) (log_answer result) }
@@ -69,13 +73,13 @@ pub(crate) fn start_brokers<D: SimDisk>(
     Ok(Opening { brokers, told })
 }
 
-/// Crashes the lane of a publisher, where it is at a broker.
-fn crash_lane<D: SimDisk>(topology: &Topology, disk: &mut D, b: u16, p: u16)
+/// Crashes the lanes of a publisher, where it is at a broker.
+fn crash_log<D: SimDisk>(topology: &Topology, disk: &mut D, b: u16, p: u16)
     requires { p < length topology.now.publishers }
     ensures here { host_of topology.now p ≡ b
-        → D.lane_of disk.new (2 * p) ≡ crashed (D.lane_of disk.old (2 * p)) }
+        → lanes_at (D.lane_of disk.new) (log_lane p) ≡ crashed_lanes (lanes_at (D.lane_of disk.old) (log_lane p)) }
     ensures elsewhere { host_of topology.now p ≢ b → disk.new ≡ disk.old }
-    ensures others { (n : ℕ) → n ≢ 2 * p → D.lane_of disk.new n ≡ D.lane_of disk.old n }
+    ensures others { (n : ℕ) → AwayFrom (log_lane p) n → D.lane_of disk.new n ≡ D.lane_of disk.old n }
     ensures faults { D.faults disk.new ≡ D.faults disk.old }
     ensures stops { D.stops disk.new ≡ D.stops disk.old }
     ensures faultless { StaysFaultless (D.faultless disk.old) (D.faultless disk.new)
@@ -83,7 +87,7 @@ fn crash_lane<D: SimDisk>(topology: &Topology, disk: &mut D, b: u16, p: u16)
 {
     let _ = topology.publishers();
     if topology.host(p) == b {
-        disk.crash(2 * p);
+        crash_both(disk, p);
     }
 }
 
@@ -97,7 +101,7 @@ fn crash_lanes<D: SimDisk>(topology: &Topology, disk: &mut D, b: u16)
         (D.faults disk.old) (D.faults disk.new) }
 {
     'publishers: for p in 0..topology.publishers() {
-        crash_lane(topology, disk, b, p);
+        crash_log(topology, disk, b, p);
     }
 }
 
@@ -118,7 +122,7 @@ pub(crate) fn start_again<D: SimDisk>(
         (OpensAgain topology.now b brokers.new.items (D.lane_of disk.old) (D.lane_of disk.new)) }
     ensures touches { TouchesLanes topology.now b (D.lane_of disk.old) (D.lane_of disk.new) }
     ensures damaged { (p at : ℕ) → result ≡ Err (BrokerFault.Damaged p at)
-        → LeavesNoLog topology.now b p at (D.lane_of disk.old (2 * p)) }
+        → LeavesNoLog topology.now b p at (lanes_at (D.lane_of disk.old) (log_lane p)) }
     ensures never_reopen { result ≢ Err BrokerFault.Reopen }
     ensures tally { let f = D.faults disk.old in let s = D.stops disk.old in
         Tally f s (D.faults disk.new) (D.stops disk.new) (log_answer result) }

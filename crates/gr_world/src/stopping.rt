@@ -1,21 +1,21 @@
 //! A publish that stops inside.
 
-ghost use Rattle.std.specs.Prelude.{◌≡◌, ◌≢◌, ◌⊎◌, ◌↔◌, ℕ, ◌*◌, ◌∷◌, ◌<◌, ◌≤◌, nat_eq, false, List, length, Some, None};
+ghost use Rattle.std.specs.Prelude.{◌≡◌, ◌≢◌, ◌⊎◌, ◌↔◌, ℕ, ◌∷◌, ◌<◌, ◌≤◌, nat_eq, false, List, length, Some, None};
 ghost use Rattle.std.specs.Prelude.{Ok, Err, IsErrOf, IsSome, IfOk, OnOk};
-ghost use Rattle.gr_out.specs.Lane.{crash_image};
 ghost use Rattle.gr_out.specs.Stops.{StaysFaultless};
 ghost use Rattle.gr_sched.specs.declared.step.Step.TheVariants as step;
-ghost use Rattle.gr_publog.specs.State.{first_standing, Follow};
-ghost use Rattle.gr_publog.specs.Crash.{LogView};
-ghost use Rattle.gr_pubend.specs.Log.{log_of};
+ghost use Rattle.gr_publog.specs.State.{IsState};
+ghost use Rattle.gr_publog.specs.Views.{LogView, lanes_at, AwayFrom};
+ghost use Rattle.gr_pubend.specs.Log.{said};
 ghost use Rattle.gr_topo.specs.Topology.{host_of, subscribers_of, not_empty};
 ghost use Rattle.gr_model.specs.declared.report.Report.{Report};
 ghost use Rattle.gr_model.specs.declared.report.Report.TheVariants.{Crashed};
 ghost use Rattle.gr_model.specs.World.{World as MachineWorld, publish_now, publish_stopped};
+ghost use Rattle.gr_broker.specs.Lanes.{log_lane};
 ghost use Rattle.gr_broker.specs.Seen.{log_said};
 ghost use Rattle.gr_world.specs.Seen.{net_in, world_of, log_at};
 ghost use Rattle.gr_world.specs.Of.{IsWorld, LaneFits, IsReadable, LanesFit, IsSound};
-ghost use Rattle.gr_world.specs.Opened.{IsRead};
+ghost use Rattle.gr_world.specs.Opened.{IsLeft};
 ghost use Rattle.gr_world.specs.Ran.{IsOpen, Ran};
 ghost use Rattle.gr_world.specs.Steps.{Makes, Refuses, Spends, Stays, Does, IsCarried, NotMemory, refused_at};
 ghost use Rattle.gr_world.specs.Disk.{Counts, StaysSound, IsClosed, IsBarred, IsIdle, UsesDisk, LeavesOthers};
@@ -25,6 +25,7 @@ ghost use Rattle.gr_world.specs.Stopped.{kept_line, stopped_over, StopsOver, Sto
 
 use crate::fault::{Memory, WorldFault};
 use crate::order::hosts_subscriber;
+use crate::pair::{is_stopped, stop_both};
 use crate::sending::take_answer;
 use crate::world::World;
 use gr_broker::{BrokerFault, Outcome};
@@ -33,14 +34,15 @@ use gr_model::topologies::every_topology_is_a_tree;
 use gr_model::{Report, Reports};
 use gr_out::SimDisk;
 use gr_publog::Log;
+use gr_publog::law::stands_found;
 use gr_sched::Stop;
 use gr_tick::MAX_TICK;
 use std::alloc::Global;
 
 /// The tick at which an event of this number would be logged behind a log, at a moment. None where none would be.
 fn tick_logged(log: &Log, number: u64, now: u64) -> Option<u64>
-    requires { Follow (first_standing log.now.late) log.now.records }
-    ensures { result ≡ tick_in (log_of log.now.records) number now }
+    requires { IsState log.now.state }
+    ensures { result ≡ tick_in (said log.now) number now }
 {
     let last = log.last();
     let settled = log.settled();
@@ -53,7 +55,7 @@ fn tick_logged(log: &Log, number: u64, now: u64) -> Option<u64>
     Some(now.max(settled + 1))
 }
 
-/// Whether it was the stop that broke a publish, given whether its lane is stopped.
+/// Whether it was the stop that broke a publish, given whether one of its lanes is stopped.
 fn is_broken_by(answer: &Result<Outcome, BrokerFault>, stopped: bool) -> bool
     ensures { result ≡ is_broken_by answer.now stopped }
 {
@@ -77,8 +79,7 @@ fn lines_of_stop(alloc: Global, host: u16, kept: Report, opened: Reports) -> Res
 
 /// The line that tells whether the event of a stopped publish is kept: its number is then the last one of the log.
 fn line_of_stop(log: &Log, p: u16, number: u64, tick: u64) -> Report
-    requires { Follow (first_standing log.now.late) log.now.records }
-    ensures { let last = (log_of log.now.records).last in result ≡ kept_line (nat_eq last number) p number tick }
+    ensures { result ≡ kept_line (nat_eq log.now.state.last number) p number tick }
 {
     if log.last() == number {
         Report::Kept {
@@ -200,6 +201,8 @@ impl World {
         ensures others { LeavesOthers self.old.topo (D.lane_of disk.old) (D.lane_of disk.new) }
         ensures lanes { result ≢ Err WorldFault.Memory → LanesFit (D.lane_of disk.new) self.new }
     {
+        // Proof only: what a crash leaves of lanes in which a log stands stands for it.
+        stands_found();
         let log = self.log_here(host, p);
         let Some(tick) = tick_logged(log, number, self.clock) else {
             return self.publish_at_host(disk, p, number, event);
@@ -235,13 +238,15 @@ impl World {
         ensures reopen { IsErrOf (lines_in result) WorldFault.Reopen ↔ IsBarred self.old p number event.now }
         ensures unchanged { IsErrOf (lines_in result) WorldFault.Reopen → self.new ≡ self.old }
         ensures failed { IsErrOf (lines_in result) WorldFault.Disk → self.new ≡ broken_in self.old host p }
-        // Where the stop broke it, all is as before but for the log, and the lane is left as the call and the pick tell
+        // Where the stop broke it, all is as before but for the log, and the lanes are left as the call and the pick
+        // tell
         ensures broken { result ≡ Ok None → self.new ≡ broken_in self.old host p }
         ensures stopped { result ≡ Ok None → (tick : ℕ)
             → tick_in (log_said (log_at self.old p)) number self.old.clock ≡ Some tick
-            → IsStoppedAt self.old p tick number event.now stop.now.call stop.now.pick (D.lane_of disk.new (2 * p)) }
+            → IsStoppedAt self.old p tick number event.now stop.now.call stop.now.pick
+            (lanes_at (D.lane_of disk.new) (log_lane p)) }
         ensures never_through { (lines : List Report) → result ≢ Ok (Some lines) }
-        ensures others { (n : ℕ) → n ≢ 2 * p → D.lane_of disk.new n ≡ D.lane_of disk.old n }
+        ensures others { (n : ℕ) → AwayFrom (log_lane p) n → D.lane_of disk.new n ≡ D.lane_of disk.old n }
         ensures counts { let f = D.faults disk.old in let s = D.stops disk.old in
             Counts f s (D.faults disk.new) (D.stops disk.new) (lines_in result) }
         ensures faultless { StaysFaultless (D.faultless disk.old) (D.faultless disk.new)
@@ -249,17 +254,17 @@ impl World {
         ensures never_fails { D.faultless disk.old → result ≢ Err WorldFault.Disk }
         ensures lanes { result ≢ Ok None → LanesFit (D.lane_of disk.new) self.new }
     {
-        // Proof only: what is sent goes over edges, and each publisher has a lane.
+        // Proof only: what is sent goes over edges, and each publisher has lanes.
         every_topology_is_a_tree(&self.topology);
         let _ = self.topology.publishers();
-        disk.stop_after(2 * p, stop.call, stop.pick);
+        stop_both(disk, p, stop.call, stop.pick);
         let broker = &mut self.brokers[host as usize];
         let answer = broker.publish(&self.topology, disk, p, number, event, self.clock);
-        if is_broken_by(&answer, disk.stopped(2 * p)) {
+        if is_broken_by(&answer, is_stopped(disk, p)) {
             drop(answer);
             return Ok(None);
         }
-        disk.stop_after(2 * p, 0, 0);
+        stop_both(disk, p, 0, 0);
         match take_answer(&mut self.frames, answer) {
             Ok(lines) => Ok(Some(lines)),
             Err(fault) => Err(fault),
@@ -282,15 +287,16 @@ impl World {
         requires no_subscriber { not_empty (subscribers_of self.old.topo host) ≡ false }
         requires open { IsOpen self.old }
         requires readable { (q : ℕ) → q < length self.old.topo.publishers
-            → IsReadable self.old.topo.late (D.lane_of disk.old (2 * q)) }
+            → IsReadable self.old.topo.late (lanes_at (D.lane_of disk.old) (log_lane q)) }
         requires others { (q : ℕ) (l : LogView) → q < length self.old.topo.publishers
-            → host_of self.old.topo q ≢ host → log_at self.old q ≡ Some l → LaneFits l (D.lane_of disk.old (2 * q)) }
+            → host_of self.old.topo q ≢ host → log_at self.old q ≡ Some l
+            → LaneFits l (lanes_at (D.lane_of disk.old) (log_lane q)) }
         ensures does { let w : MachineWorld = world_of self.new in
             Does (stopped_over (net_in self.old) (world_of self.old) host p number tick w.logs) self.new result }
         ensures ran { StopRestarts host self.old self.new result }
         ensures found { let late = self.old.topo.late in OnOk result ((q : ℕ) → q < length self.old.topo.publishers
             → host_of self.old.topo q ≡ host
-            → IsRead late (log_at self.new q) (crash_image (D.lane_of disk.old (2 * q)))) }
+            → IsLeft late (log_at self.new q) (lanes_at (D.lane_of disk.old) (log_lane q))) }
         ensures elsewhere { OnOk result ((q : ℕ) → q < length self.old.topo.publishers
             → host_of self.old.topo q ≢ host → log_at self.new q ≡ log_at self.old q) }
         ensures faults { D.faults disk.old ≤ D.faults disk.new }
@@ -339,7 +345,7 @@ impl World {
         requires host { host ≡ host_of self.now.topo p }
         requires broker { host < length self.now.topo.brokers }
         ensures log { log_at self.now p ≡ Some result.now }
-        ensures follow { Follow (first_standing result.now.late) result.now.records }
+        ensures state { IsState result.now.state }
     {
         let log = self.brokers[host as usize].log(p);
         let _ = log.is_broken();

@@ -1,7 +1,8 @@
-use Rattle.std.proofs.Common.{◌≡◌, ◌≢◌, ℕ, ◌*◌, ◌<◌, true, length, Err, set, refl, sym, ap, subst}
-use Rattle.gr_out.specs.declared.disk.Stop.TheVariants.{Unset}
+use Rattle.std.proofs.Common.{◌≡◌, ◌≢◌, ℕ, ◌<◌, true, length, Err, set, refl, sym, ap, subst}
+use Rattle.gr_publog.specs.Views.{lanes_at}
 use Rattle.gr_model.specs.Net.{is_host}
 use Rattle.gr_model.specs.NetOf.{net_of}
+use Rattle.gr_broker.specs.Lanes.{log_lane, AreUnset}
 use Rattle.gr_broker.specs.declared.outcome.BrokerFault.TheVariants as refused
 use Rattle.gr_world.proofs.Again.{touches_lanes, unset_crashed, opens_again, damaged_again}
 use Rattle.gr_world.proofs.Answering.{err_is, same_fault}
@@ -32,6 +33,6 @@ pub returns-in-Err-clause-never_fails : goal.returns-in-Err-clause-never_fails
 returns-in-Err-clause-never_fails g c = λ faultless e.
     let t = c.args.topology.now in
     let mid = g.D.Disk.lane_of c.crash_lanes.new.disk in
-    let never : g.D.Disk.faultless c.crash_lanes.new.disk → ((p : ℕ) → p < length t.publishers → is_host (net_of t) p c.args.b ≡ true → (mid (2 * p)).stop ≡ Unset) → c.in-Err.fault ≢ refused.Disk = λ f u h. c.in-Err.ensures.never_fails g.met.D.SimDisk.told f u (ap (λ x. Err x) h) in
+    let never : g.D.Disk.faultless c.crash_lanes.new.disk → ((p : ℕ) → p < length t.publishers → is_host (net_of t) p c.args.b ≡ true → AreUnset (lanes_at mid (log_lane p))) → c.in-Err.fault ≢ refused.Disk = λ f u h. c.in-Err.ensures.never_fails g.met.D.SimDisk.told f u (ap (λ x. Err x) h) in
     never (c.crash_lanes.ensures.faultless.stays faultless)
     (unset_crashed t c.args.b (g.D.Disk.lane_of c.args.disk.now) mid (g.D.Disk.lane_of c.start.new.disk) c.crash_lanes.ensures.crashes) (err_is c.in-Err.fault refused.Disk e)

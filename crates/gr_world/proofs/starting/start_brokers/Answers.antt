@@ -1,7 +1,8 @@
-use Rattle.std.proofs.Common.{◌≡◌, ◌≢◌, ℕ, ◌+◌, ◌*◌, ◌<◌, true, length, Err, ap, ◌∙◌}
-use Rattle.gr_out.specs.declared.disk.Stop.TheVariants.{Unset}
+use Rattle.std.proofs.Common.{◌≡◌, ◌≢◌, ℕ, ◌+◌, ◌<◌, true, length, Err, ap, ◌∙◌}
+use Rattle.gr_publog.specs.Views.{lanes_at}
 use Rattle.gr_model.specs.Net.{is_host}
 use Rattle.gr_model.specs.NetOf.{net_of}
+use Rattle.gr_broker.specs.Lanes.{log_lane, AreUnset}
 use Rattle.gr_broker.specs.declared.outcome.BrokerFault.TheVariants as refused
 use Rattle.gr_world.proofs.Answering.{err_is, faultless_on, same_fault}
 use Rattle.gr_world.proofs.Brokers.{started_next, opened_next, damaged_of_all, unset_first, untouched_next, untouched_all, untouched_others}
@@ -38,7 +39,7 @@ returns-in-Err-clause-never_fails g c = λ none faultless e.
     let t = c.args.topology.now in
     let mid = g.D.Disk.lane_of c.brokers.disk in
     let sofar = c.brokers.invariant in
-    let never : g.D.Disk.faultless c.brokers.disk → ((p : ℕ) → p < length t.publishers → is_host (net_of t) p c.brokers.b ≡ true → (mid (2 * p)).stop ≡ Unset) → c.in-Err.fault ≢ refused.Disk = λ f u h. c.in-Err.ensures.never_fails g.met.D.SimDisk.told f u (ap (λ x. Err x) h) in
+    let never : g.D.Disk.faultless c.brokers.disk → ((p : ℕ) → p < length t.publishers → is_host (net_of t) p c.brokers.b ≡ true → AreUnset (lanes_at mid (log_lane p))) → c.in-Err.fault ≢ refused.Disk = λ f u h. c.in-Err.ensures.never_fails g.met.D.SimDisk.told f u (ap (λ x. Err x) h) in
     never (sofar.faultless.stays faultless) (unset_first t c.brokers.b c.brokers.brokers.items (g.D.Disk.lane_of c.args.disk.now) mid sofar.opened none) (err_is c.in-Err.fault refused.Disk e)
 
 pub returns-in-Err-clause-others : goal.returns-in-Err-clause-others

@@ -20,7 +20,7 @@ returns-clause-does g c = λ sound.
     let new = c.restart.new.self in
     let b = c.args.b in
     let one = c.in-Ok.ensures in
-    let same = logs_found old new b (g.D.Disk.lane_of c.args.disk.now) c.requires.fits sound c.requires.unspent c.requires.lanes c.requires.broker one.restarts.elsewhere one.found one.restarts.topo in
+    let same = logs_found c.stands_found.ensures old new b (g.D.Disk.lane_of c.args.disk.now) c.requires.fits sound c.requires.unspent c.requires.lanes c.requires.broker one.restarts.elsewhere one.found one.restarts.topo in
     elim c.match-crash_lines.branch [
       | in-Ok-crash_lines w ↦
           subst (λ r. Does (crash (net_in old) (world_of old) b) new r) (sym w.result-is)

@@ -1,5 +1,7 @@
 -- The call is one of the host, taken up by the world
-use Rattle.std.proofs.Common.{◌*◌, sym, ap}
+use Rattle.std.proofs.Common.{sym, ap}
+use Rattle.gr_publog.specs.Views.{lanes_at}
+use Rattle.gr_broker.specs.Lanes.{log_lane, either_stopped}
 use Rattle.gr_broker.specs.Told.{log_answer}
 use Rattle.gr_world.specs.contracts.world.World.{the_view}
 use Rattle.gr_world.specs.Of.{LanesFit}
@@ -86,7 +88,7 @@ pub returns-clause-disk : goal.returns-clause-disk
 returns-clause-disk g c =
     let e = c.join-answer.ensures in
     ran_on (g.D.Disk.faultless c.args.disk.now) (g.D.Disk.faultless c.join-answer.new.disk) (g.D.Disk.faults c.args.disk.now) (g.D.Disk.stops c.args.disk.now)
-    (g.D.Disk.faults c.join-answer.new.disk) (g.D.Disk.stops c.join-answer.new.disk) (g.D.Disk.lane_of c.join-answer.new.disk (2 * c.args.p)) c.join-answer.result c.take_answer.result
+    (g.D.Disk.faults c.join-answer.new.disk) (g.D.Disk.stops c.join-answer.new.disk) (either_stopped (lanes_at (g.D.Disk.lane_of c.join-answer.new.disk) (log_lane c.args.p))) c.join-answer.result c.take_answer.result
     c.take_answer.ensures.follows e.uses.tally (e.uses.causes g.met.D.SimDisk.told) e.uses.faultless_stays
     (site_unstopped (the_view c.self.inside) c.args.self.now c.host-host.result c.args.p c.index_mut-broker.result.now (site g c) c.join-answer.new.self c.take_answer.new.frames c.take_answer.result
     (g.D.Disk.lane_of c.join-answer.new.disk) c.every_topology_is_a_tree.ensures.tree (ran g c) (lanes g c))

@@ -1,11 +1,12 @@
-use Rattle.std.proofs.Common.{◌≡◌, ℕ, ◌*◌, ◌<◌, List, length, Err, sym, ap, ◌∙◌, subst}
-use Rattle.gr_out.specs.Lane.{content}
+use Rattle.std.proofs.Common.{◌≡◌, ℕ, ◌<◌, true, List, length, Err, sym, ap, ◌∙◌, subst}
+use Rattle.gr_publog.specs.Views.{lanes_at}
 use Rattle.gr_model.specs.NetOf.{net_of}
-use Rattle.gr_model.specs.World.{start}
+use Rattle.gr_model.specs.World.{start_by}
+use Rattle.gr_broker.specs.Lanes.{log_lane}
 use Rattle.gr_world.specs.declared.fault.WorldFault.TheVariants as fault
 use Rattle.gr_world.specs.Seen.{world_of, log_at}
 use Rattle.gr_world.specs.Of.{IsWorld, LanesFit}
-use Rattle.gr_world.specs.Opened.{IsOpened, IsRead}
+use Rattle.gr_world.specs.Opened.{IsOpened, IsFound}
 use Rattle.gr_world.proofs.Answering.{damaged_in, err_is}
 use Rattle.gr_world.proofs.Opened.{world_at, opened_fits, is_opened, opened_found, opened_lanes, fresh_world, fresh_told}
 use Rattle.gr_world.proofs.Fitted.{fits_start}
@@ -30,7 +31,7 @@ returns-clause-found g c =
     let told = c.in-Ok.opened.told in
     let one = c.in-Ok.ensures in
     let before = g.D.Disk.lane_of c.args.disk.now in
-    subst (λ (fs : List (List ℕ)). (p : ℕ) → p < length t.publishers → IsRead t.late (log_at (world_at t brokers told fs) p) (content (before (2 * p)))) (sym c.new.ensures)
+    subst (λ (fs : List (List ℕ)). (p : ℕ) → p < length t.publishers → IsFound t.late (log_at (world_at t brokers told fs) p) (lanes_at before (log_lane p))) (sym c.new.ensures)
     (opened_found t brokers told one.topology one.started before (g.D.Disk.lane_of c.start_brokers.new.disk) one.opened)
 
 pub returns-clause-fresh : goal.returns-clause-fresh
@@ -41,7 +42,7 @@ returns-clause-fresh g c = λ empty.
     let one = c.in-Ok.ensures in
     let before = g.D.Disk.lane_of c.args.disk.now in
     let after = g.D.Disk.lane_of c.start_brokers.new.disk in (
-      subst (λ (fs : List (List ℕ)). world_of (world_at t brokers told fs) ≡ start (net_of t)) (sym c.new.ensures) (fresh_world t brokers told one.topology one.started before after one.opened empty),
+      subst (λ (fs : List (List ℕ)). world_of (world_at t brokers told fs) ≡ start_by true (net_of t)) (sym c.new.ensures) (fresh_world t brokers told one.topology one.started before after one.opened empty),
       fresh_told t brokers told one.topology one.started before after one.opened empty,
     )
 
@@ -53,7 +54,7 @@ returns-clause-lanes g c = λ none.
     let one = c.in-Ok.ensures in
     let after = g.D.Disk.lane_of c.start_brokers.new.disk in
     subst (λ (fs : List (List ℕ)). LanesFit after (world_at t brokers told fs)) (sym c.new.ensures)
-    (opened_lanes t brokers told one.topology one.started (g.D.Disk.lane_of c.args.disk.now) after one.opened none)
+    (opened_lanes t brokers told one.topology one.started (g.D.Disk.lane_of c.args.disk.now) after one.opened c.stands_read.ensures none)
 
 pub returns-clause-fits_nothing : goal.returns-clause-fits_nothing
 returns-clause-fits_nothing g c = λ none empty.

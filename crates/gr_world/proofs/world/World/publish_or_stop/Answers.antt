@@ -49,7 +49,7 @@ returns-in-Ok-None-clause-does g c = λ s n.
     let is = c.publish_to_stop.ensures.broken none in
     let next = some_at w c.args.p c.args.number c.self.inside.clock c.in-Some.tick c.log_here-log.result.now c.tick_logged.result c.log_here-log.ensures.log (ap (λ (v : WorldView). v.clock) c.self.view_is)
     c.tick_logged.ensures c.in-Some.is in
-    stopped_mid w c.publish_to_stop.new.self c.start_stopped.new.self (g.D.Disk.lane_of c.args.disk.now) (g.D.Disk.lane_of c.publish_to_stop.new.disk) n c.args.host c.args.p c.args.number c.in-Some.tick c.args.stop.now
+    stopped_mid c.stands_found.ensures w c.publish_to_stop.new.self c.start_stopped.new.self (g.D.Disk.lane_of c.args.disk.now) (g.D.Disk.lane_of c.publish_to_stop.new.disk) n c.args.host c.args.p c.args.number c.in-Some.tick c.args.stop.now
     c.args.event.now c.start_stopped.result (c.publish_to_stop.ensures.stopped none c.in-Some.tick next) c.requires.fits c.requires.«open» c.requires.lanes s c.requires.host c.requires.broker c.requires.publisher
     c.requires.no_subscriber next c.publish_to_stop.ensures.others is c.start_stopped.ensures.ran c.start_stopped.ensures.does c.start_stopped.ensures.found c.start_stopped.ensures.elsewhere
 

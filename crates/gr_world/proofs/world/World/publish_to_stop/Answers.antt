@@ -20,18 +20,16 @@ use Rattle.gr_world.proofs.StoppedWorlds.{IsHere, is_here}
 use Rattle.gr_world.proofs.world.World.publish_to_stop.Goals.{in-Ok, in-Err}
 use Rattle.gr_world.proofs.world.World.publish_to_stop.Goals as goal
 
-pub stop_after-requires : goal.stop_after-requires
-stop_after-requires g c = record {
-  reserved = λ t.
-      let h : IsHere c.args.self.now (g.D.Disk.lane_of c.args.disk.now) c.args.p =
-      is_here c.args.self.now (g.D.Disk.lane_of c.args.disk.now) c.args.p c.requires.fits c.requires.«open» c.requires.lanes c.requires.publisher
-      (subst (λ k. k < length c.args.self.now.topo.brokers) c.requires.host c.requires.broker) in
-      h.lane.reserved;
-}
+pub stop_both-requires-clause-reserved : goal.stop_both-requires-clause-reserved
+stop_both-requires-clause-reserved g c =
+    let h : IsHere c.args.self.now (g.D.Disk.lane_of c.args.disk.now) c.args.p =
+    is_here c.args.self.now (g.D.Disk.lane_of c.args.disk.now) c.args.p c.requires.fits c.requires.«open» c.requires.lanes c.requires.publisher
+    (subst (λ k. k < length c.args.self.now.topo.brokers) c.requires.host c.requires.broker) in
+    h.lane.reserved
 
 pub publish-answer-requires-clause-stands : goal.publish-answer-requires-clause-stands
 publish-answer-requires-clause-stands g c = λ t.
-    stand_with c.index_mut-broker.result.now c.args.p (stop_at c.args.stop.now.call c.args.stop.now.pick) (g.D.Disk.lane_of c.args.disk.now) (g.D.Disk.lane_of c.stop_after.new.self) (c.stop_after.ensures.stop g.met.D.SimDisk.told) (c.stop_after.ensures.others g.met.D.SimDisk.told)
+    stand_with c.index_mut-broker.result.now c.args.p (stop_at c.args.stop.now.call c.args.stop.now.pick) (g.D.Disk.lane_of c.args.disk.now) (g.D.Disk.lane_of c.stop_both.new.disk) c.stop_both.ensures.both c.stop_both.ensures.others
     (read_stands (the_view c.self.inside) c.args.self.now c.args.host c.index_mut-broker.result.now (g.D.Disk.lane_of c.args.disk.now) c.self.view_is c.requires.fits c.requires.«open» c.requires.lanes
     (subst (λ (u : WorldView). c.args.host < length u.topo.brokers) (sym c.self.view_is) c.requires.broker) c.index_mut-broker.ensures.value)
 
@@ -50,7 +48,7 @@ returns-then-is_broken_by-clause-ran g c =
     let k : Publishes c.self.inside.topology c.index_mut-broker.result.now c.args.p c.self.inside.clock c.args.number c.args.event.now c.publish-answer.new.self c.publish-answer.result =
     record { told = e.told; leaves = e.leaves; log = e.log; fits = e.fits; reopen = e.reopen } in
     stopped_ran (the_view c.self.inside) c.args.self.now c.args.host c.args.p c.args.number c.args.event.now c.index_mut-broker.result.now c.publish-answer.new.self c.publish-answer.result s host c.every_topology_is_a_tree.ensures.tree k
-    (broken_by c.publish-answer.result c.stopped.result (sym c.is_broken_by.ensures ∙ c.if-is_broken_by.true)).0
+    (broken_by c.publish-answer.result c.is_stopped.result (sym c.is_broken_by.ensures ∙ c.if-is_broken_by.true)).0
 
 pub returns-then-is_broken_by-clause-stopped : goal.returns-then-is_broken_by-clause-stopped
 returns-then-is_broken_by-clause-stopped g c = λ is tick some.
@@ -66,7 +64,7 @@ returns-then-is_broken_by-clause-stopped g c = λ is tick some.
     let e = c.publish-answer.ensures in
     let k : Publishes c.self.inside.topology c.index_mut-broker.result.now c.args.p c.self.inside.clock c.args.number c.args.event.now c.publish-answer.new.self c.publish-answer.result =
     record { told = e.told; leaves = e.leaves; log = e.log; fits = e.fits; reopen = e.reopen } in
-    let on : PublishesOn c.index_mut-broker.result.now c.args.p c.self.inside.clock c.args.number c.args.event.now c.publish-answer.new.self (g.D.Disk.lane_of c.stop_after.new.self) (g.D.Disk.lane_of c.publish-answer.new.disk) c.publish-answer.result =
+    let on : PublishesOn c.index_mut-broker.result.now c.args.p c.self.inside.clock c.args.number c.args.event.now c.publish-answer.new.self (g.D.Disk.lane_of c.stop_both.new.disk) (g.D.Disk.lane_of c.publish-answer.new.disk) c.publish-answer.result =
     record {
       lane = e.lane g.met.D.SimDisk.told;
       idle = λ h n. ap (λ d. g.D.Disk.lane_of d n) (e.uses.idle (ap log_answer h));
@@ -74,38 +72,37 @@ returns-then-is_broken_by-clause-stopped g c = λ is tick some.
       others = e.uses.others g.met.D.SimDisk.told;
       stands = e.stands g.met.D.SimDisk.told;
     } in
-    stopped_at (the_view c.self.inside) c.args.self.now c.args.host c.args.p c.args.number c.args.event.now c.index_mut-broker.result.now c.publish-answer.new.self c.publish-answer.result s host c.every_topology_is_a_tree.ensures.tree k (g.D.Disk.lane_of c.args.disk.now) (g.D.Disk.lane_of c.stop_after.new.self) (g.D.Disk.lane_of c.publish-answer.new.disk) c.args.stop.now.call c.args.stop.now.pick tick (c.stop_after.ensures.stop g.met.D.SimDisk.told) c.requires.first
+    stopped_at (the_view c.self.inside) c.args.self.now c.args.host c.args.p c.args.number c.args.event.now c.index_mut-broker.result.now c.publish-answer.new.self c.publish-answer.result s host c.every_topology_is_a_tree.ensures.tree k (g.D.Disk.lane_of c.args.disk.now) (g.D.Disk.lane_of c.stop_both.new.disk) (g.D.Disk.lane_of c.publish-answer.new.disk) c.args.stop.now.call c.args.stop.now.pick tick c.stop_both.ensures.both c.requires.first
     (let f = c.requires.lanes in f.readable c.requires.«open».unspent c.args.p c.requires.publisher)
-    (sym (c.stopped.ensures g.met.D.SimDisk.told) ∙ (broken_by c.publish-answer.result c.stopped.result (sym c.is_broken_by.ensures ∙ c.if-is_broken_by.true)).1) some on
+    (broken_by c.publish-answer.result c.is_stopped.result (sym c.is_broken_by.ensures ∙ c.if-is_broken_by.true)).0
+    (sym c.is_stopped.ensures ∙ (broken_by c.publish-answer.result c.is_stopped.result (sym c.is_broken_by.ensures ∙ c.if-is_broken_by.true)).1) some on
 
-pub stop_after-requires-2 : goal.stop_after-requires-2
-stop_after-requires-2 g c = record {
-  reserved = λ t.
-      let h : IsHere c.args.self.now (g.D.Disk.lane_of c.args.disk.now) c.args.p =
-      is_here c.args.self.now (g.D.Disk.lane_of c.args.disk.now) c.args.p c.requires.fits c.requires.«open» c.requires.lanes c.requires.publisher
-      (subst (λ k. k < length c.args.self.now.topo.brokers) c.requires.host c.requires.broker) in
-      let s : Site (the_view c.self.inside) c.args.self.now c.args.host c.args.p c.index_mut-broker.result.now = record {
-        same = c.self.view_is;
-        fits = c.requires.fits;
-        is_open = c.requires.«open»;
-        publisher = c.requires.publisher;
-        broker = subst (λ (u : WorldView). c.args.host < length u.topo.brokers) (sym c.self.view_is) c.requires.broker;
-        read = c.index_mut-broker.ensures.value;
-      } in
-      let host : host_of c.self.inside.topology c.args.p ≡ c.args.host = sym (c.requires.host ∙ ap (λ (u : WorldView). host_of u.topo c.args.p) (sym c.self.view_is)) in
-      let e = c.publish-answer.ensures in
-      let k : Publishes c.self.inside.topology c.index_mut-broker.result.now c.args.p c.self.inside.clock c.args.number c.args.event.now c.publish-answer.new.self c.publish-answer.result =
-      record { told = e.told; leaves = e.leaves; log = e.log; fits = e.fits; reopen = e.reopen } in
-      let on : PublishesOn c.index_mut-broker.result.now c.args.p c.self.inside.clock c.args.number c.args.event.now c.publish-answer.new.self (g.D.Disk.lane_of c.stop_after.new.self) (g.D.Disk.lane_of c.publish-answer.new.disk) c.publish-answer.result =
-      record {
-        lane = e.lane g.met.D.SimDisk.told;
-        idle = λ h n. ap (λ d. g.D.Disk.lane_of d n) (e.uses.idle (ap log_answer h));
-        untouched = λ h n. ap (λ d. g.D.Disk.lane_of d n) (e.untouched h);
-        others = e.uses.others g.met.D.SimDisk.told;
-        stands = e.stands g.met.D.SimDisk.told;
-      } in
-      reserved_left (the_view c.self.inside) c.args.self.now c.args.host c.args.p c.args.number c.args.event.now c.index_mut-broker.result.now c.publish-answer.new.self c.publish-answer.result s host c.every_topology_is_a_tree.ensures.tree k (g.D.Disk.lane_of c.args.disk.now) (g.D.Disk.lane_of c.stop_after.new.self) (g.D.Disk.lane_of c.publish-answer.new.disk) (stop_at c.args.stop.now.call c.args.stop.now.pick) (c.stop_after.ensures.stop g.met.D.SimDisk.told) h.lane.reserved on;
-}
+pub stop_both-requires-2-clause-reserved : goal.stop_both-requires-2-clause-reserved
+stop_both-requires-2-clause-reserved g c =
+    let h : IsHere c.args.self.now (g.D.Disk.lane_of c.args.disk.now) c.args.p =
+    is_here c.args.self.now (g.D.Disk.lane_of c.args.disk.now) c.args.p c.requires.fits c.requires.«open» c.requires.lanes c.requires.publisher
+    (subst (λ k. k < length c.args.self.now.topo.brokers) c.requires.host c.requires.broker) in
+    let s : Site (the_view c.self.inside) c.args.self.now c.args.host c.args.p c.index_mut-broker.result.now = record {
+      same = c.self.view_is;
+      fits = c.requires.fits;
+      is_open = c.requires.«open»;
+      publisher = c.requires.publisher;
+      broker = subst (λ (u : WorldView). c.args.host < length u.topo.brokers) (sym c.self.view_is) c.requires.broker;
+      read = c.index_mut-broker.ensures.value;
+    } in
+    let host : host_of c.self.inside.topology c.args.p ≡ c.args.host = sym (c.requires.host ∙ ap (λ (u : WorldView). host_of u.topo c.args.p) (sym c.self.view_is)) in
+    let e = c.publish-answer.ensures in
+    let k : Publishes c.self.inside.topology c.index_mut-broker.result.now c.args.p c.self.inside.clock c.args.number c.args.event.now c.publish-answer.new.self c.publish-answer.result =
+    record { told = e.told; leaves = e.leaves; log = e.log; fits = e.fits; reopen = e.reopen } in
+    let on : PublishesOn c.index_mut-broker.result.now c.args.p c.self.inside.clock c.args.number c.args.event.now c.publish-answer.new.self (g.D.Disk.lane_of c.stop_both.new.disk) (g.D.Disk.lane_of c.publish-answer.new.disk) c.publish-answer.result =
+    record {
+      lane = e.lane g.met.D.SimDisk.told;
+      idle = λ h n. ap (λ d. g.D.Disk.lane_of d n) (e.uses.idle (ap log_answer h));
+      untouched = λ h n. ap (λ d. g.D.Disk.lane_of d n) (e.untouched h);
+      others = e.uses.others g.met.D.SimDisk.told;
+      stands = e.stands g.met.D.SimDisk.told;
+    } in
+    reserved_left (the_view c.self.inside) c.args.self.now c.args.host c.args.p c.args.number c.args.event.now c.index_mut-broker.result.now c.publish-answer.new.self c.publish-answer.result s host c.every_topology_is_a_tree.ensures.tree k (g.D.Disk.lane_of c.args.disk.now) (g.D.Disk.lane_of c.stop_both.new.disk) (g.D.Disk.lane_of c.publish-answer.new.disk) (stop_at c.args.stop.now.call c.args.stop.now.pick) c.stop_both.ensures.both h.lane.reserved on
 
 pub returns-clause-ran : goal.returns-clause-ran
 returns-clause-ran g c =
@@ -145,7 +142,7 @@ returns-clause-never_through g c = λ lines is.
     let e = c.publish-answer.ensures in
     let k : Publishes c.self.inside.topology c.index_mut-broker.result.now c.args.p c.self.inside.clock c.args.number c.args.event.now c.publish-answer.new.self c.publish-answer.result =
     record { told = e.told; leaves = e.leaves; log = e.log; fits = e.fits; reopen = e.reopen } in
-    let on : PublishesOn c.index_mut-broker.result.now c.args.p c.self.inside.clock c.args.number c.args.event.now c.publish-answer.new.self (g.D.Disk.lane_of c.stop_after.new.self) (g.D.Disk.lane_of c.publish-answer.new.disk) c.publish-answer.result =
+    let on : PublishesOn c.index_mut-broker.result.now c.args.p c.self.inside.clock c.args.number c.args.event.now c.publish-answer.new.self (g.D.Disk.lane_of c.stop_both.new.disk) (g.D.Disk.lane_of c.publish-answer.new.disk) c.publish-answer.result =
     record {
       lane = e.lane g.met.D.SimDisk.told;
       idle = λ h n. ap (λ d. g.D.Disk.lane_of d n) (e.uses.idle (ap log_answer h));
@@ -158,7 +155,7 @@ returns-clause-never_through g c = λ lines is.
       | in-Err w ↦ ap lines_in w.result-is ∙ sym w.in-Err.is
     ] in
     took_none c.publish-answer.result c.take_answer.result lines c.take_answer.ensures.follows (sym lines_is ∙ ap lines_in is)
-    (not_through (the_view c.self.inside) c.args.self.now c.args.host c.args.p c.args.number c.args.event.now c.index_mut-broker.result.now c.publish-answer.new.self c.publish-answer.result s host c.every_topology_is_a_tree.ensures.tree k (g.D.Disk.lane_of c.args.disk.now) (g.D.Disk.lane_of c.stop_after.new.self) (g.D.Disk.lane_of c.publish-answer.new.disk) c.args.stop.now.call c.args.stop.now.pick h.log h.there (c.stop_after.ensures.stop g.met.D.SimDisk.told) c.requires.first c.requires.last c.requires.next on)
+    (not_through (the_view c.self.inside) c.args.self.now c.args.host c.args.p c.args.number c.args.event.now c.index_mut-broker.result.now c.publish-answer.new.self c.publish-answer.result s host c.every_topology_is_a_tree.ensures.tree k (g.D.Disk.lane_of c.args.disk.now) (g.D.Disk.lane_of c.stop_both.new.disk) (g.D.Disk.lane_of c.publish-answer.new.disk) c.args.stop.now.call c.args.stop.now.pick h.log h.there c.stop_both.ensures.both c.requires.first c.requires.last c.requires.next on)
 
 pub returns-clause-lanes : goal.returns-clause-lanes
 returns-clause-lanes g c = λ ne.
@@ -174,7 +171,7 @@ returns-clause-lanes g c = λ ne.
     let e = c.publish-answer.ensures in
     let k : Publishes c.self.inside.topology c.index_mut-broker.result.now c.args.p c.self.inside.clock c.args.number c.args.event.now c.publish-answer.new.self c.publish-answer.result =
     record { told = e.told; leaves = e.leaves; log = e.log; fits = e.fits; reopen = e.reopen } in
-    let on : PublishesOn c.index_mut-broker.result.now c.args.p c.self.inside.clock c.args.number c.args.event.now c.publish-answer.new.self (g.D.Disk.lane_of c.stop_after.new.self) (g.D.Disk.lane_of c.publish-answer.new.disk) c.publish-answer.result =
+    let on : PublishesOn c.index_mut-broker.result.now c.args.p c.self.inside.clock c.args.number c.args.event.now c.publish-answer.new.self (g.D.Disk.lane_of c.stop_both.new.disk) (g.D.Disk.lane_of c.publish-answer.new.disk) c.publish-answer.result =
     record {
       lane = e.lane g.met.D.SimDisk.told;
       idle = λ h n. ap (λ d. g.D.Disk.lane_of d n) (e.uses.idle (ap log_answer h));
@@ -182,9 +179,9 @@ returns-clause-lanes g c = λ ne.
       others = e.uses.others g.met.D.SimDisk.told;
       stands = e.stands g.met.D.SimDisk.told;
     } in
-    ended_fit (the_view c.self.inside) c.args.self.now c.args.host c.args.p c.args.number c.args.event.now c.index_mut-broker.result.now c.publish-answer.new.self c.publish-answer.result s host c.every_topology_is_a_tree.ensures.tree k c.take_answer.new.frames c.take_answer.result (g.D.Disk.lane_of c.args.disk.now) (g.D.Disk.lane_of c.stop_after.new.self) (g.D.Disk.lane_of c.publish-answer.new.disk) (g.D.Disk.lane_of c.stop_after-2.new.self) (stop_at c.args.stop.now.call c.args.stop.now.pick)
-    c.take_answer.ensures.follows c.take_answer.ensures.takes c.requires.lanes (c.stop_after.ensures.stop g.met.D.SimDisk.told) (c.stop_after-2.ensures.stop g.met.D.SimDisk.told) (c.stop_after-2.ensures.others g.met.D.SimDisk.told)
-    (λ m away. c.stop_after-2.ensures.others g.met.D.SimDisk.told m away ∙ (e.uses.others g.met.D.SimDisk.told m away ∙ c.stop_after.ensures.others g.met.D.SimDisk.told m away)) on
+    ended_fit (the_view c.self.inside) c.args.self.now c.args.host c.args.p c.args.number c.args.event.now c.index_mut-broker.result.now c.publish-answer.new.self c.publish-answer.result s host c.every_topology_is_a_tree.ensures.tree k c.take_answer.new.frames c.take_answer.result (g.D.Disk.lane_of c.args.disk.now) (g.D.Disk.lane_of c.stop_both.new.disk) (g.D.Disk.lane_of c.publish-answer.new.disk) (g.D.Disk.lane_of c.stop_both-2.new.disk) (stop_at c.args.stop.now.call c.args.stop.now.pick)
+    c.take_answer.ensures.follows c.take_answer.ensures.takes c.requires.lanes c.stop_both.ensures.both c.stop_both-2.ensures.both c.stop_both-2.ensures.others
+    (λ m away. c.stop_both-2.ensures.others m away ∙ (e.uses.others g.met.D.SimDisk.told m away ∙ c.stop_both.ensures.others m away)) on
 
 pub returns-then-is_broken_by-clause-reopen : goal.returns-then-is_broken_by-clause-reopen
 returns-then-is_broken_by-clause-reopen g c =
@@ -201,7 +198,7 @@ returns-then-is_broken_by-clause-reopen g c =
     let k : Publishes c.self.inside.topology c.index_mut-broker.result.now c.args.p c.self.inside.clock c.args.number c.args.event.now c.publish-answer.new.self c.publish-answer.result =
     record { told = e.told; leaves = e.leaves; log = e.log; fits = e.fits; reopen = e.reopen } in
     stopped_reopens (the_view c.self.inside) c.args.self.now c.args.host c.args.p c.args.number c.args.event.now c.index_mut-broker.result.now c.publish-answer.new.self c.publish-answer.result s host c.every_topology_is_a_tree.ensures.tree k
-    (broken_by c.publish-answer.result c.stopped.result (sym c.is_broken_by.ensures ∙ c.if-is_broken_by.true)).0
+    (broken_by c.publish-answer.result c.is_stopped.result (sym c.is_broken_by.ensures ∙ c.if-is_broken_by.true)).0
 
 pub returns-clause-reopen : goal.returns-clause-reopen
 returns-clause-reopen g c =
