@@ -1,6 +1,6 @@
 -- What a run does once its brokers have started are calls of hosted brokers and answers, for publishers of the topology, and acts that
 -- call none
-use Rattle.std.proofs.Common.{◌≡◌, ◌<◌, ◌≤◌, ℕ, zero, suc, ◌+◌, Bool, true, false, List, [], ◌∷◌, ◌++◌, length, map, flat_map, Option, Some, None, Result, Ok, Err, refl, ap, ◌∙◌, arith}
+use Rattle.std.proofs.Common.{◌≡◌, ◌<◌, ◌≤◌, ℕ, zero, suc, ◌+◌, ◌^◌, Bool, true, false, List, [], ◌∷◌, ◌++◌, length, map, flat_map, Option, Some, None, Result, Ok, Err, refl, ap, ◌∙◌, arith}
 use Rattle.std.specs.Prelude.{nat_eq, if◌then◌else◌}
 use Rattle.std.specs.List.{AllByRecursion}
 use Rattle.std.proofs.lemmas.Bool.{eq-eqb, or_left, or_right, and_parts}
@@ -29,14 +29,19 @@ pub all_front : {X : Type 0} (P : X → Type 0) (xs ys : List X) → AllByRecurs
 all_front P [] ys a = tt
 all_front P (x ∷ xs) ys a = (a.0, all_front P xs ys a.1)
 
+-- and so is what stands behind it
+pub all_back : {X : Type 0} (P : X → Type 0) (xs ys : List X) → AllByRecursion P (xs ++ ys) → AllByRecursion P ys
+all_back P [] ys a = a
+all_back P (x ∷ xs) ys a = all_back P xs ys a.1
+
 pub all_append : {X : Type 0} (P : X → Type 0) (xs ys : List X) → AllByRecursion P xs → AllByRecursion P ys → AllByRecursion P (xs ++ ys)
 all_append P [] ys a b = b
 all_append P (x ∷ xs) ys a b = (a.0, all_append P xs ys a.1 b)
 
-module _ (t : TopologyView) (hosted : List ℕ) where
+module _ (t : TopologyView) (hosted : List ℕ) (few : length t.subscribers ≤ 2 ^ 16) where
   -- Requests
 
-  abbrev AreRequests : List Request → Type 0
+  abbrev pub AreRequests : List Request → Type 0
   AreRequests left = AllByRecursion (λ x. IsCallOf t hosted (call_of x)) left
 
   request_of : (s : Step) → IsStepOf t s → AreRequests (elim s [
@@ -52,7 +57,7 @@ module _ (t : TopologyView) (hosted : List ℕ) where
   request_of (step.Join s p) h = go (is_hosted (net_of t) hosted p) refl
     where
       go : (q : Bool) → is_hosted (net_of t) hosted p ≡ q → AreRequests (if q then asks_join s p ∷ [] else [])
-      go true k = ((h.2, k), tt)
+      go true k = ((h.2, (k, omega (arith, h.0, few))), tt)
       go false k = tt
   request_of (step.Clock now) h = tt
   request_of (step.Wake b) h = tt
@@ -62,11 +67,11 @@ module _ (t : TopologyView) (hosted : List ℕ) where
   request_of step.Show h = tt
   request_of (step.Bytes frame) h = tt
 
-  requests_are : (steps : List Line) → AreStepsOf t steps → AreRequests (requests_of (net_of t) hosted steps)
+  pub requests_are : (steps : List Line) → AreStepsOf t steps → AreRequests (requests_of (net_of t) hosted steps)
   requests_are [] a = tt
   requests_are (l ∷ ls) a = all_append (λ x. IsCallOf t hosted (call_of x)) _ _ (request_of l.step a.0) (requests_are ls a.1)
 
-  left_are : (left : List Request) (a : Arrival) → AreRequests left → AreRequests (left_after left a)
+  pub left_are : (left : List Request) (a : Arrival) → AreRequests left → AreRequests (left_after left a)
   left_are left (datagram b bytes moment) h = h
   left_are [] (quiet moment) h = tt
   left_are (x ∷ left) (quiet moment) h = h.1
@@ -123,7 +128,7 @@ module _ (t : TopologyView) (hosted : List ℕ) where
       go true = note_are b (note_decoded bytes) here
       go false = (here, tt)
 
-  arrival_are : (left : List Request) (a : Arrival) → AreRequests left → AreActs (acts_of (net_of t) hosted left a)
+  pub arrival_are : (left : List Request) (a : Arrival) → AreRequests left → AreActs (acts_of (net_of t) hosted left a)
   arrival_are left (datagram b bytes moment) h = go (is_among hosted b) refl
     where
       go : (q : Bool) → is_among hosted b ≡ q → AreActs (if q then datagram_acts (net_of t) b bytes else [])
@@ -131,7 +136,7 @@ module _ (t : TopologyView) (hosted : List ℕ) where
       go false e = tt
   arrival_are left (quiet moment) h = made_of (quiet_calls (net_of t) hosted left) (quiet_are left h)
 
-  settling_is : (a : Arrival) → AreActs (settling hosted a)
+  pub settling_is : (a : Arrival) → AreActs (settling hosted a)
   settling_is a = go (is_ours hosted a)
     where
       go : (q : Bool) → AreActs (if q then settles ∷ [] else [])

@@ -1,5 +1,5 @@
 -- A broker's call at a node: what the broker tells and leaves is the node's act, each line is named, and each frame goes over an edge
-use Rattle.std.proofs.Common.{◌≡◌, ◌≢◌, ◌⊎◌, inl, inr, ℕ, ◌*◌, ◌<◌, List, [], ◌∷◌, length, true, Option, Some, None, Result, Ok, Err, OnOk, refl, sym, ap, ◌∙◌, subst}
+use Rattle.std.proofs.Common.{◌≡◌, ◌≢◌, ◌⊎◌, inl, inr, ℕ, ◌<◌, List, [], ◌∷◌, length, true, Option, Some, None, Result, Ok, Err, OnOk, refl, sym, ap, ◌∙◌, subst}
 use Rattle.std.specs.Prelude.{IfOk, is_some}
 use Rattle.std.specs.List.{AllByRecursion}
 use Rattle.std.proofs.lemmas.Bool.{and_from, cases_eq, false≢true}
@@ -9,7 +9,7 @@ use Rattle.gr_out.specs.declared.fault.RunFault.{RunFault}
 use Rattle.gr_out.specs.declared.fault.RunFault.TheVariants as run
 use Rattle.gr_out.specs.Lane.{Lane}
 use Rattle.gr_publog.specs.declared.record.Record.{Record}
-use Rattle.gr_publog.specs.Crash.{LogView}
+use Rattle.gr_publog.specs.Views.{LogView, AwayFrom}
 use Rattle.gr_publog.specs.Calls.{Leaves}
 use Rattle.gr_topo.specs.Topology.{TopologyView, host_of, late_of}
 use Rattle.gr_model.specs.Tree.{IsNet}
@@ -25,10 +25,11 @@ use Rattle.gr_broker_relay.specs.declared.outcome.Outcome.{Outcome}
 use Rattle.gr_broker_relay.specs.Told.{Tells}
 use Rattle.gr_broker.specs.declared.outcome.BrokerFault.{BrokerFault}
 use Rattle.gr_broker.specs.declared.outcome.BrokerFault.TheVariants as refused
-use Rattle.gr_broker.specs.Seen.{BrokerView, view_in, log_in, log_said, machine_log, with_logged, logged_at, broken_at}
+use Rattle.gr_broker.specs.Lanes.{log_lane}
+use Rattle.gr_broker.specs.Seen.{BrokerView, view_in, log_in, log_said, machine_log, with_logged, with_cut_if, logged_at, broken_at}
 use Rattle.gr_broker.specs.Of.{IsBrokerOf, LogsStand}
 use Rattle.gr_broker.specs.Told.{log_answer}
-use Rattle.gr_broker.specs.Hosted.{publish_at, publish_logs_at, after_publish, join_at, join_logs_at, after_join, wake_at, mark_logs_at, cut_logs_at, after_mark, after_wake, WakeLeaves}
+use Rattle.gr_broker.specs.Hosted.{publish_at, publish_logs_at, after_publish, join_at, join_logs_at, after_join, wake_at, mark_logs_at, cut_at, after_mark, after_wake, WakeLeaves}
 use Rattle.gr_report.specs.Named.{AllNamed}
 use Rattle.gr_report.proofs.Names.{publish_named, joining_named, wake_named, names_with, orderly_with}
 use Rattle.gr_report.proofs.Named.{names_of, all_of}
@@ -39,7 +40,7 @@ use Rattle.gr_node.specs.Plan.{Call, publishes, joins, wakes}
 use Rattle.gr_node.specs.Done.{done_by, done_at, taken_up, call_done}
 use Rattle.gr_node.specs.Went.{Makes}
 use Rattle.gr_node.specs.Calling.{Follows}
-use Rattle.gr_node.proofs.Exchanged.{Place, IsWhole, with_brokers, whole_logged, whole_with, place_broker, place_whole, place_log, no_log, fits_on, stands_on, others_on, makes_on}
+use Rattle.gr_node.proofs.Exchanged.{Place, IsWhole, with_brokers, whole_logged, whole_cut, whole_with, place_broker, place_whole, place_log, no_log, fits_on, stands_on, others_on, makes_on}
 
 -- The answer
 
@@ -93,8 +94,8 @@ module _ (t : TopologyView) (n : NodeView) (p : ℕ) (x after : BrokerView) (bs 
       whole : IsWhole (logged_at x p r o.view)
       whole = whole_with x p (with_logged (log_in x p) r) o.view (place_log t n (host_of t p) x after bs s p below) (whole_logged (log_in x p) r ∙ x_whole p) x_whole
 
-  module _ (lanes lanes' : ℕ → Lane) (others : (m : ℕ) → m ≢ 2 * p → lanes' m ≡ lanes m) where
-    moves : (m : ℕ) → (host_of t p ≡ host_of t p → m ≢ 2 * p) → lanes' m ≡ lanes m
+  module _ (lanes lanes' : ℕ → Lane) (others : (m : ℕ) → AwayFrom (log_lane p) m → lanes' m ≡ lanes m) where
+    moves : (m : ℕ) → (host_of t p ≡ host_of t p → AwayFrom (log_lane p) m) → lanes' m ≡ lanes m
     moves m clear = others m (clear refl)
 
     pub stands_at_host : AllStand lanes n → LogsStand lanes' after → OnOk result (AllStand lanes' (with_brokers n bs))
@@ -214,11 +215,11 @@ module _ (t : TopologyView) (n : NodeView) (b p : ℕ) (x after : BrokerView) (b
       marked = with_logged (log_in x p) (mark_logs_at t x p n.now)
 
       whole : IsWhole (after_wake t x p n.now)
-      whole = whole_with x p (with_logged marked (cut_logs_at t x p n.now)) woken.view (place_log t n b x after bs s p below)
-          (whole_logged marked (cut_logs_at t x p n.now) ∙ (whole_logged (log_in x p) (mark_logs_at t x p n.now) ∙ x_whole p)) x_whole
+      whole = whole_with x p (with_cut_if marked (cut_at t x p n.now) t.settings.reclaim) woken.view (place_log t n b x after bs s p below)
+          (whole_cut marked (cut_at t x p n.now) t.settings.reclaim ∙ (whole_logged (log_in x p) (mark_logs_at t x p n.now) ∙ x_whole p)) x_whole
 
-  module _ (lanes lanes' : ℕ → Lane) (elsewhere : log_in x p ≡ None → (m : ℕ) → lanes' m ≡ lanes m) (others : (m : ℕ) → m ≢ 2 * p → lanes' m ≡ lanes m) where
-    moves_woken : (m : ℕ) → (host_of t p ≡ b → m ≢ 2 * p) → lanes' m ≡ lanes m
+  module _ (lanes lanes' : ℕ → Lane) (elsewhere : log_in x p ≡ None → (m : ℕ) → lanes' m ≡ lanes m) (others : (m : ℕ) → AwayFrom (log_lane p) m → lanes' m ≡ lanes m) where
+    moves_woken : (m : ℕ) → (host_of t p ≡ b → AwayFrom (log_lane p) m) → lanes' m ≡ lanes m
     moves_woken m clear = go (cases_eq (host_of t p) b)
       where
         go : (host_of t p ≡ b) ⊎ (host_of t p ≢ b) → lanes' m ≡ lanes m

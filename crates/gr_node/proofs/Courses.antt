@@ -1,6 +1,6 @@
 -- The course of a run: where it is known what was done, and where it is not. What was made of the plan tells the first of the machine's
 -- lines and those of one order, and puts its first entries
-use Rattle.std.proofs.Common.{◌≡◌, ◌⊎◌, inl, inr, ℕ, ◌*◌, ◌<◌, ◌≤◌, Bool, true, false, ◌||◌, List, [], ◌∷◌, ◌++◌, length, map, take, drop, get_or, Option, Result, Ok, Err, OnOk, flat_map, refl, sym, ap, ap₂, ◌∙◌, subst, arith, append_assoc, append-nil, take-append-drop, take_all, eq-eqb}
+use Rattle.std.proofs.Common.{◌≡◌, ◌⊎◌, inl, inr, ℕ, ◌<◌, ◌≤◌, Bool, true, false, ◌||◌, List, [], ◌∷◌, ◌++◌, length, map, take, drop, get_or, Option, Result, Ok, Err, OnOk, flat_map, refl, sym, ap, ap₂, ◌∙◌, subst, arith, append_assoc, append-nil, take-append-drop, take_all, eq-eqb}
 use Rattle.std.specs.Prelude.{IsSome, nat_eq}
 use Rattle.std.specs.List.{AllByRecursion, list_any}
 use Rattle.std.proofs.lemmas.Bool.{cases_eq, ne_eqb, false≢true, or_left}
@@ -11,32 +11,33 @@ use Rattle.gr_out.specs.declared.fault.RunFault.TheVariants as run
 use Rattle.gr_out.specs.Bytes.{with_more}
 use Rattle.gr_out.specs.Entry.{Entry}
 use Rattle.gr_out.specs.Journal.{is_among}
-use Rattle.gr_out.specs.Lane.{Lane, content}
+use Rattle.gr_out.specs.Lane.{Lane}
 use Rattle.gr_out.specs.Page.{TakesBut, TakesFront}
 use Rattle.gr_out.proofs.Fronts.{front-more}
-use Rattle.gr_publog.specs.declared.record.Record.{Record}
-use Rattle.gr_publog.specs.Text.{log_text}
+use Rattle.gr_publog.specs.Views.{lanes_at}
 use Rattle.gr_sched.specs.declared.step.Line.{Line}
-use Rattle.gr_topo.specs.Topology.{TopologyView, host_of}
+use Rattle.gr_topo.specs.Topology.{TopologyView, IsSound, host_of}
 use Rattle.gr_model.specs.declared.report.Report.{Report}
 use Rattle.gr_model.specs.Net.{Net}
 use Rattle.gr_model.specs.NetOf.{net_of}
+use Rattle.gr_model.specs.Broker.{Log, empty_log}
 use Rattle.gr_model.specs.World.{World, Transition, followed_by, in_turn}
 use Rattle.gr_model.specs.Opening.{over_logs}
 use Rattle.gr_model.specs.Arrivals.{Arrival, served}
 use Rattle.gr_model.specs.Orders.{Order, fed, orders_of, with_orders}
-use Rattle.gr_model_theorems.specs.Lanes.{AllFollow, whole_logs}
+use Rattle.gr_model_theorems.specs.Forgets.{AllOpened}
 use Rattle.gr_model_theorems.specs.Served.{joined, IsOfBytes}
 use Rattle.gr_model_calls.proofs.runs.Schedules.{length_numbers}
-use Rattle.gr_node.specs.Seen.{NodeView, broker_in, none_started, records_in, text_of}
+use Rattle.gr_node.specs.Seen.{NodeView, broker_in, none_started, log_here, text_of}
 use Rattle.gr_node.specs.Of.{AreHosted, Hosts, OthersStay}
 use Rattle.gr_node.specs.Plan.{Act, binds, starts, shows, ours, bound_entry, act, told_by_acts, run_acts, nodes, plan, all_entries}
 use Rattle.gr_node.specs.Went.{Outside, outside, IsExact, fault_entries, Begins}
-use Rattle.gr_node.specs.Starting.{Started, HasStarted, Found, start_lines}
-use Rattle.gr_node.specs.Served.{Course, is_start, IsRefused, LogsLast, KeepsLogs}
+use Rattle.gr_broker.specs.Lanes.{log_lane}
+use Rattle.gr_node.specs.Starting.{Started, HasStarted, Found, OpensAsLog, start_lines}
+use Rattle.gr_node.specs.Served.{Course, is_start, IsRefused, LogsLast, RunsAlong, KeepsLogs}
 use Rattle.gr_node.specs.Ending.{Serves}
 use Rattle.gr_node.proofs.Moving.{IsNode}
-use Rattle.gr_node.proofs.Opening.{opened_is, records_found, records_follow, records_read, binds_nothing, binds_entries, starts_entries, in_turn_append, all_entries_append}
+use Rattle.gr_node.proofs.Opening.{opened_is, logs_found, logs_opened, logs_read, binds_nothing, binds_entries, starts_entries, in_turn_append, all_entries_append}
 use Rattle.gr_node.proofs.ToldOrders.{plan_told, told_front, begun_told}
 use Rattle.gr_node.proofs.StartingNodes.{none_begun}
 use Rattle.gr_node.proofs.Ended.{text_append, on_err}
@@ -57,12 +58,12 @@ unknown_refused T t run.Post left h = absurd (h tt)
 pub but_all_taken : (old new : Option (List ℕ)) (text : List ℕ) → TakesBut old new text [] → new ≡ with_more old text
 but_all_taken old new text b = b.taken ∙ ap (with_more old) (sym (append-nil b.part) ∙ sym b.whole)
 
--- The course of a run over these records, with what came
+-- The course of a run over these logs, with what came
 
 module _ (T : Type 0) (t : TopologyView) (hosted : List ℕ) (steps : List Line) (turns : ℕ) (posts keeps : Type 0) (journal journal' : List Entry) (taken taken' : Option (List ℕ)) (lanes lanes' : ℕ → Lane)
-    (r : Result T RunFault) (records : List (List Record)) (count : length records ≡ length t.publishers) (follow : AllFollow t.late records) (came : List Arrival) (closed : Bool) (within : length came ≤ turns) (bytes : AllByRecursion IsOfBytes came) where
+    (r : Result T RunFault) (logs : List Log) (count : length logs ≡ length t.publishers) (were : AllOpened t.late logs) (came : List Arrival) (closed : Bool) (within : length came ≤ turns) (bytes : AllByRecursion IsOfBytes came) where
   abbrev first : World
-  first = over_logs (net_of t) (whole_logs records)
+  first = over_logs (net_of t) logs
 
   abbrev ends : List Act → Transition
   ends acts = in_turn (act (net_of t) hosted) acts first
@@ -72,19 +73,19 @@ module _ (T : Type 0) (t : TopologyView) (hosted : List ℕ) (steps : List Line)
   tells acts = told_by_acts (net_of t) hosted first (orders_of t) acts
 
   abbrev whole_text : List ℕ
-  whole_text = text_of t (joined (with_orders (orders_of t) (served (net_of t) hosted (whole_logs records) steps (ours hosted came))))
+  whole_text = text_of t (joined (with_orders (orders_of t) (served (net_of t) hosted logs steps (ours hosted came))))
 
   abbrev all_acts : List Act
   all_acts = plan t hosted steps came closed
 
   abbrev course : List Act → List Act → Course
-  course made left = record { records = records; came = came; closed = closed; made = made; left = left }
+  course made left = record { logs = logs; came = came; closed = closed; made = made; left = left }
 
   module _ (made left : List Act) (parts : made ++ left ≡ all_acts) where
     -- what was made tells a front of what is served
     text_whole : (rest : List ℕ) × (whole_text ≡ text_of t (tells made) ++ rest)
     text_whole =
-        let front = told_front t hosted steps came closed (whole_logs records) (orders_of t) made left parts in
+        let front = told_front t hosted steps came closed logs (orders_of t) made left parts in
         (text_of t front.0, ap (text_of t) front.1 ∙ text_append t (tells made) front.0)
 
     front_whole : TakesFront taken taken' (text_of t (tells made)) → TakesFront taken taken' whole_text
@@ -109,7 +110,7 @@ module _ (T : Type 0) (t : TopologyView) (hosted : List ℕ) (steps : List Line)
     text_all : left ≡ [] → text_of t (tells made) ≡ whole_text
     text_all none =
         ap (λ acts. text_of t (tells acts)) (sym (append-nil made) ∙ (ap (λ xs. made ++ xs) (sym none) ∙ parts))
-        ∙ ap (text_of t) (plan_told t hosted steps came closed (whole_logs records) (orders_of t))
+        ∙ ap (text_of t) (plan_told t hosted steps came closed logs (orders_of t))
 
     reported : (q : Result T RunFault) → taken' ≡ with_more taken (text_of t (tells made)) → OnOk q (left ≡ []) → OnOk q (taken' ≡ with_more taken whole_text)
     reported (Ok x) told none = told ∙ ap (with_more taken) (text_all none)
@@ -122,7 +123,7 @@ module _ (T : Type 0) (t : TopologyView) (hosted : List ℕ) (steps : List Line)
         → Serves {T = T} t hosted steps turns posts keeps journal journal' taken taken' lanes lanes' r
     carried exact whole ended refused sent told kept = record {
       course = course made left;
-      run = record { acts = parts; count = count; follow = follow; within = within; bytes = bytes; whole = whole; ended = ended; refused = refused };
+      run = record { acts = parts; count = count; opened = were; within = within; bytes = bytes; whole = whole; ended = ended; refused = refused };
       posted = λ h. record { exact = λ _. sent h; front = λ unknown. absurd (unknown exact) };
       printed = record {
         report = reported r told whole;
@@ -134,14 +135,14 @@ module _ (T : Type 0) (t : TopologyView) (hosted : List ℕ) (steps : List Line)
 
     -- It is not: these acts tell and put a front, and no more is said
     pub cut : (IsExact r → ⊥) → TakesFront taken taken' (text_of t (tells made)) → (posts → Begins journal journal' (all_entries t hosted first made))
-        → (keeps → LogsLast t hosted steps (course [] all_acts) lanes') → (keeps → OthersStay t hosted lanes lanes')
+        → (keeps → LogsLast t hosted steps (course [] all_acts) lanes') → (keeps → RunsAlong t hosted steps (course [] all_acts) lanes lanes') → (keeps → OthersStay t hosted lanes lanes')
         → Serves {T = T} t hosted steps turns posts keeps journal journal' taken taken' lanes lanes' r
-    cut unknown front begins since others = record {
+    cut unknown front begins since along others = record {
       course = course [] all_acts;
       run = record {
         acts = refl;
         count = count;
-        follow = follow;
+        opened = were;
         within = within;
         bytes = bytes;
         whole = unknown_ok _ r unknown;
@@ -158,6 +159,7 @@ module _ (T : Type 0) (t : TopologyView) (hosted : List ℕ) (steps : List Line)
         found = λ p below here is. absurd (false≢true is);
         kept = λ exact. absurd (unknown exact);
         since = since h;
+        along = along h;
         damaged = λ p at is. absurd (unknown (subst (λ q. IsExact q) (sym is) tt));
         others = others h;
       };
@@ -172,18 +174,19 @@ pub record IsOpened (t : TopologyView) (hosted bs rest : List ℕ) (n : NodeView
   pub offers : n.offers ≡ 0
   pub now : n.now ≡ 0
   pub count : length n.brokers ≡ length t.brokers
+  pub sound : IsSound t
 
 -- none yet
-pub none_opened : (t : TopologyView) (hosted : List ℕ) (n : NodeView) → n ≡ none_started t → IsOpened t hosted [] hosted n
-none_opened t hosted n e =
+pub none_opened : (t : TopologyView) (hosted : List ℕ) (n : NodeView) → IsSound t → n ≡ none_started t → IsOpened t hosted [] hosted n
+none_opened t hosted n sound e =
     let none = none_begun t n e in
-    record { parts = refl; hosts = none.hosts; each = tt; offers = none.offers; now = none.now; count = none.count }
+    record { parts = refl; hosts = none.hosts; each = tt; offers = none.offers; now = none.now; count = none.count; sound = sound }
 
 module _ (T : Type 0) (t : TopologyView) (hosted : List ℕ) (n : NodeView) (o u : Outside) (r : Result T RunFault) (s : Started {T = T} t hosted n o u r)
-    (offers : n.offers ≡ 0) (now : n.now ≡ 0) (count : length n.brokers ≡ length t.brokers) where
+    (offers : n.offers ≡ 0) (now : n.now ≡ 0) (count : length n.brokers ≡ length t.brokers) (sound : IsSound t) where
   -- those that have
   pub some_opened : IsOpened t hosted (take s.made hosted) (drop s.made hosted) n
-  some_opened = record { parts = take-append-drop s.made hosted; hosts = s.hosts; each = s.each; offers = offers; now = now; count = count }
+  some_opened = record { parts = take-append-drop s.made hosted; hosts = s.hosts; each = s.each; offers = offers; now = now; count = count; sound = sound }
 
   -- and all
   pub all_opened : s.made ≡ length hosted → IsOpened t hosted hosted [] n
@@ -196,6 +199,7 @@ module _ (T : Type 0) (t : TopologyView) (hosted : List ℕ) (n : NodeView) (o u
         offers = offers;
         now = now;
         count = count;
+        sound = sound;
       }
 
 pub all_of : (xs : List ℕ) (k : ℕ) → k ≡ length xs → take k xs ≡ xs
@@ -238,11 +242,11 @@ module _ (t : TopologyView) (hosted : List ℕ) (are : AreHosted t hosted) (bs r
   abbrev net : Net
   net = net_of t
 
-  abbrev pub records : List (List Record)
-  records = records_found t n
+  abbrev pub logs : List Log
+  logs = logs_found t n
 
   abbrev pub before : World
-  before = over_logs net (whole_logs records)
+  before = over_logs net logs
 
   abbrev pub bindings : List Act
   bindings = map binds (nodes t hosted)
@@ -259,11 +263,11 @@ module _ (t : TopologyView) (hosted : List ℕ) (are : AreHosted t hosted) (bs r
   pub opened : (started.lines ≡ flat_map (start_lines t n) bs) × IsNode t n started.world
   opened = opened_is t hosted bs rest n o.parts are o.each o.hosts o.offers o.now o.count
 
-  pub many : length records ≡ length t.publishers
-  many = length_numbers (records_in t n) 0 (length t.publishers)
+  pub many : length logs ≡ length t.publishers
+  many = length_numbers (log_here t n) 0 (length t.publishers)
 
-  pub follows : AllFollow t.late records
-  follows = records_follow t bs n o.each o.hosts
+  pub were_opened : AllOpened t.late logs
+  were_opened = logs_opened t bs n o.each o.hosts (let sound = o.sound in omega (arith, sound.limits.late))
 
   pub turn_behind : (more : List Act) → in_turn (act net hosted) (begun more) before ≡ followed_by started (in_turn (act net hosted) more)
   turn_behind more =
@@ -326,7 +330,7 @@ module _ (t : TopologyView) (hosted : List ℕ) (are : AreHosted t hosted) (bs r
 
   -- what was found on the lanes of one that has
   pub found_here : (lanes : ℕ → Lane) → ((b : ℕ) → IsSome (broker_in n b) → Found t n (b ∷ []) lanes) → (p : ℕ) → p < length t.publishers → is_among bs (host_of t p) ≡ true
-      → log_text t.late (content (lanes (2 * p))) ≡ Ok (get_or records p [])
+      → OpensAsLog t.late (log_lane p) (lanes_at lanes (log_lane p)) (get_or logs p empty_log)
   found_here lanes found p below here =
-      found (host_of t p) (o.hosts (host_of t p) ∙ here) p below (or_left (nat_eq (host_of t p) (host_of t p)) false (eq-eqb (host_of t p) (host_of t p) refl))
-      ∙ ap (λ rs. Ok rs) (sym (records_read t n p below))
+      subst (λ (l : Log). OpensAsLog t.late (log_lane p) (lanes_at lanes (log_lane p)) l) (sym (logs_read t n p below))
+      (found (host_of t p) (o.hosts (host_of t p) ∙ here) p below (or_left (nat_eq (host_of t p) (host_of t p)) false (eq-eqb (host_of t p) (host_of t p) refl)))

@@ -202,16 +202,17 @@ module _ (t : TopologyView) (hosted : List ℕ) (n : NodeView) (acts more : List
   }
 
 -- The page is written at the end of a run
-pub ran_wrote : {T : Type 0} (t : TopologyView) (hosted : List ℕ) (tells keeps : Type 0) (lanes : ℕ → Lane) (steps : List Line) (turns : ℕ) (n n' : NodeView) (o : Outside)
+pub ran_wrote : {T : Type 0} (t : TopologyView) (hosted : List ℕ) (tells keeps : Type 0) (lanes lanes' : ℕ → Lane) (steps : List Line) (turns : ℕ) (n n' : NodeView) (o : Outside)
     (taken taken' : Option (List ℕ)) (held held' : List ℕ) (journal : List Entry) (before result : Result T RunFault)
-    → (IsErrOf before run.Post → held ≡ []) → RanWith t hosted tells keeps steps turns n n' o (outside taken held journal) lanes before → Wrote taken taken' held held' before result
-    → RanWith t hosted tells keeps steps turns n n' o (outside taken' [] journal) lanes result
-ran_wrote {T} t hosted tells keeps lanes steps turns n n' o taken taken' held held' journal before result at_post w wrote = elim (unwritten_or before) [
-  | inl u ↦ subst (λ r. RanWith {T = T} t hosted tells keeps steps turns n n' o (outside taken' [] journal) lanes r) (sym (wrote.left u).0) (record {
+    → (IsErrOf before run.Post → held ≡ []) → RanWith t hosted tells keeps steps turns n n' o (outside taken held journal) lanes lanes' before → Wrote taken taken' held held' before result
+    → RanWith t hosted tells keeps steps turns n n' o (outside taken' [] journal) lanes lanes' result
+ran_wrote {T} t hosted tells keeps lanes lanes' steps turns n n' o taken taken' held held' journal before result at_post w wrote = elim (unwritten_or before) [
+  | inl u ↦ subst (λ r. RanWith {T = T} t hosted tells keeps steps turns n n' o (outside taken' [] journal) lanes lanes' r) (sym (wrote.left u).0) (record {
     came = w.came;
     closed = w.closed;
     within = w.within;
     bytes = w.bytes;
+    kept = w.kept;
     stood = w.stood;
     ended = w.ended;
     ran = record {
@@ -228,11 +229,12 @@ ran_wrote {T} t hosted tells keeps lanes steps turns n n' o taken taken' held he
     };
   })
   | inr written ↦ elim (wrote.written written) [
-    | inl same ↦ subst (λ r. RanWith {T = T} t hosted tells keeps steps turns n n' o (outside taken' [] journal) lanes r) (sym same.0) (record {
+    | inl same ↦ subst (λ r. RanWith {T = T} t hosted tells keeps steps turns n n' o (outside taken' [] journal) lanes lanes' r) (sym same.0) (record {
       came = w.came;
       closed = w.closed;
       within = w.within;
       bytes = w.bytes;
+      kept = w.kept;
       stood = w.stood;
       ended = w.ended;
       ran = record {
@@ -248,11 +250,12 @@ ran_wrote {T} t hosted tells keeps lanes steps turns n n' o taken taken' held he
         sent_front = m.sent_front;
       };
     })
-    | inr failed ↦ subst (λ r. RanWith {T = T} t hosted tells keeps steps turns n n' o (outside taken' [] journal) lanes r) (sym failed.0) (record {
+    | inr failed ↦ subst (λ r. RanWith {T = T} t hosted tells keeps steps turns n n' o (outside taken' [] journal) lanes lanes' r) (sym failed.0) (record {
       came = w.came;
       closed = w.closed;
       within = w.within;
       bytes = w.bytes;
+      kept = w.kept;
       stood = w.stood;
       ended = tt;
       ran = record {

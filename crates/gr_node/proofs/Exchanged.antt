@@ -1,6 +1,6 @@
--- One broker of a node is exchanged, by a call that touches one publisher's lane, and only where that publisher is at the broker:
+-- One broker of a node is exchanged, by a call that touches one publisher's lanes, and only where that publisher is at the broker:
 -- what holds of the node holds of it then, since each other broker stands as it did
-use Rattle.std.proofs.Common.{◌≡◌, ◌≢◌, ◌⊎◌, inl, inr, ℕ, suc, ◌+◌, ◌*◌, ◌<◌, ◌≤◌, true, false, List, [], ◌∷◌, ◌++◌, length, get_or, set, Option, Some, None, refl, sym, ap, ap₂, ◌∙◌, subst, arith}
+use Rattle.std.proofs.Common.{◌≡◌, ◌≢◌, ◌⊎◌, inl, inr, ℕ, suc, ◌+◌, ◌<◌, ◌≤◌, Bool, true, false, if◌then◌else◌, List, [], ◌∷◌, ◌++◌, length, get_or, set, Option, Some, None, refl, sym, ap, ap₂, ◌∙◌, subst, arith}
 use Rattle.std.specs.Prelude.{is_some, IsSome, nat_eq}
 use Rattle.std.specs.List.{AllByRecursion}
 use Rattle.std.proofs.lemmas.Bool.{cases_eq, cases_lt, eq-eqb, ne_eqb, eqb-true, or_left, true≢false}
@@ -10,8 +10,10 @@ use Rattle.gr_frame.specs.Cut.{AreFrames}
 use Rattle.gr_out.specs.Lane.{Lane}
 use Rattle.gr_out.specs.Journal.{is_among}
 use Rattle.gr_publog.specs.declared.record.Record.{Record}
-use Rattle.gr_publog.specs.Crash.{LogView}
-use Rattle.gr_publog.specs.Calls.{IsReady}
+use Rattle.gr_publog.specs.declared.record.Record.TheVariants.{Cut}
+use Rattle.gr_publog.specs.State.{IsState}
+use Rattle.gr_publog.specs.Views.{LogView, Lanes, appended, reclaimed, lanes_at, AwayFrom, IsReady}
+use Rattle.gr_pubend.specs.Log.{reclaims}
 use Rattle.gr_topo.specs.Topology.{TopologyView, host_of}
 use Rattle.gr_model.specs.declared.report.Report.{Report}
 use Rattle.gr_model.specs.NetOf.{net_of}
@@ -20,7 +22,8 @@ use Rattle.gr_model.specs.World.{sent_lines}
 use Rattle.gr_model.specs.Orders.{fed}
 use Rattle.gr_model_calls.specs.Edges.{GoesOverEdge}
 use Rattle.gr_broker_relay.specs.declared.outcome.Outcome.{Outcome}
-use Rattle.gr_broker.specs.Seen.{BrokerView, log_in, with_view, with_log, with_logged, is_broken, IsHosted}
+use Rattle.gr_broker.specs.Lanes.{log_lane}
+use Rattle.gr_broker.specs.Seen.{BrokerView, log_in, with_view, with_log, with_logged, with_cut_if, is_broken, IsHosted}
 use Rattle.gr_broker.specs.Of.{IsBrokerOf, LogsStand}
 use Rattle.gr_report.specs.Named.{AllNamed}
 use Rattle.gr_node.specs.Seen.{NodeView, broker_in}
@@ -28,6 +31,7 @@ use Rattle.gr_node.specs.Of.{NodeFits, AllStand, OthersStay}
 use Rattle.gr_node.specs.Plan.{Call, offers_of}
 use Rattle.gr_node.specs.Done.{Done, taken_up, call_done}
 use Rattle.gr_node.specs.Went.{Makes}
+use Rattle.gr_node.proofs.Pairs.{lanes_same, away}
 
 none_some : {X : Type 0} {x : X} → None ≡ Some x → ⊥
 none_some e = cc
@@ -42,6 +46,29 @@ some_within xs b s = go (cases_lt b (length xs))
     go : (b < length xs) ⊎ (length xs ≤ b) → b < length xs
     go (inl lt) = lt
     go (inr past) = absurd (true≢false (sym s ∙ ap is_some (get_or_past xs b None past)))
+
+-- The logs of a broker
+
+module _ (t : TopologyView) (x : BrokerView) (fits : IsBrokerOf t x) where
+  -- a log is that of a publisher
+  pub log_within : (p : ℕ) (l : LogView) → log_in x p ≡ Some l → p < length t.publishers
+  log_within p l e = subst (λ k. p < k) fits.logs (some_within x.logs p (ap is_some e))
+
+  -- and is there where the publisher is
+  pub log_at_host : (b p : ℕ) (l : LogView) → x.number ≡ b → p < length t.publishers → log_in x p ≡ Some l → host_of t p ≡ b
+  log_at_host b p l number below e = eqb-true (host_of t p) x.number (sym (fits.hosted p below) ∙ ap is_some e) ∙ number
+
+-- what each log holds is a state, if that is so of one more
+pub states_more : (x : BrokerView) (p : ℕ) → ((q : ℕ) (l : LogView) → q < p → log_in x q ≡ Some l → IsState l.state) → ((l : LogView) → log_in x p ≡ Some l → IsState l.state)
+    → (q : ℕ) (l : LogView) → q < p + 1 → log_in x q ≡ Some l → IsState l.state
+states_more x p before here q l lt e = go (cases_eq q p)
+  where
+    go : (q ≡ p) ⊎ (q ≢ p) → IsState l.state
+    go (inl same) = here l (ap (log_in x) (sym same) ∙ e)
+    go (inr ne) = before q l (omega (arith, lt, ne)) e
+
+pub same_state : (x : BrokerView) (p : ℕ) (l m : LogView) → log_in x p ≡ Some l → log_in x p ≡ Some m → IsState l.state → IsState m.state
+same_state x p l m e f s = let same : l ≡ m = cc in subst (λ (k : LogView). IsState k.state) same s
 
 -- the node with other brokers
 abbrev pub with_brokers : NodeView → List (Option BrokerView) → NodeView
@@ -65,6 +92,16 @@ whole_with x p l v lt h whole q = go (cases_eq q p)
     go : (q ≡ p) ⊎ (q ≢ p) → is_broken (get_or (set x.logs p l) q None) ≡ false
     go (inl e) = ap is_broken (ap (λ k. get_or (set x.logs p l) k None) e ∙ get_or-set_same x.logs p l None lt) ∙ h
     go (inr d) = ap is_broken (get_or-set_other x.logs p q l None d) ∙ whole q
+
+-- and once it is cut, or not
+pub whole_cut : (l : Option LogView) (cut : Option ℕ) (reclaim : ℕ) → is_broken (with_cut_if l cut reclaim) ≡ is_broken l
+whole_cut None cut reclaim = refl
+whole_cut (Some l) None reclaim = refl
+whole_cut (Some l) (Some tick) reclaim = go (reclaims reclaim l.size l.generation)
+  where
+    go : (b : Bool) → (if b then reclaimed tick l else appended (Cut tick) l).broken ≡ l.broken
+    go true = refl
+    go false = refl
 
 -- A broker stood at its place, and another is put there
 pub record Place (t : TopologyView) (n : NodeView) (b : ℕ) (x after : BrokerView) (bs : List (Option BrokerView)) : Type 0 where
@@ -150,9 +187,9 @@ module _ (t : TopologyView) (n : NodeView) (b : ℕ) (x after : BrokerView) (bs 
 
   -- all logs stand where the lanes stay of all that are at other brokers
   pub stands_over : (lanes lanes' : ℕ → Lane) → AllStand lanes n → LogsStand lanes' after
-      → ((c q : ℕ) (y : BrokerView) (l : LogView) → c ≢ b → broker_in n c ≡ Some y → log_in y q ≡ Some l → lanes' (2 * q) ≡ lanes (2 * q)) → AllStand lanes' (with_brokers n bs)
+      → ((c q : ℕ) (y : BrokerView) (l : LogView) → c ≢ b → broker_in n c ≡ Some y → log_in y q ≡ Some l → lanes_at lanes' (log_lane q) ≡ lanes_at lanes (log_lane q)) → AllStand lanes' (with_brokers n bs)
   stands_over lanes lanes' all a stay =
-      at_each (λ c y. LogsStand lanes' y) a (λ c y d e q l h. subst (IsReady l) (sym (stay c q y l d e h)) (all c y e q l h))
+      at_each (λ c y. LogsStand lanes' y) a (λ c y d e q l h. subst (λ (ls : Lanes). IsReady l ls) (sym (stay c q y l d e h)) (all c y e q l h))
 
   -- a log at a broker is that of a publisher whose host it is
   logged_here : (c q : ℕ) (y : BrokerView) (l : LogView) → broker_in n c ≡ Some y → log_in y q ≡ Some l → host_of t q ≡ c
@@ -168,12 +205,12 @@ module _ (t : TopologyView) (n : NodeView) (b : ℕ) (x after : BrokerView) (bs 
       go (inr past) = absurd (none_some (sym (get_or_past y.logs q None past) ∙ h))
 
   -- A call that touches no lane but that of one publisher, and this only where the publisher is at the broker
-  module _ (p : ℕ) (lt : p < length t.publishers) (lanes lanes' : ℕ → Lane) (moves : (m : ℕ) → (host_of t p ≡ b → m ≢ 2 * p) → lanes' m ≡ lanes m) where
+  module _ (p : ℕ) (lt : p < length t.publishers) (lanes lanes' : ℕ → Lane) (moves : (m : ℕ) → (host_of t p ≡ b → AwayFrom (log_lane p) m) → lanes' m ≡ lanes m) where
     pub stands_on : AllStand lanes n → LogsStand lanes' after → AllStand lanes' (with_brokers n bs)
     stands_on all a =
-        stands_over lanes lanes' all a (λ c q y l d e h. moves (2 * q) (λ at twice.
-        let same : q ≡ p = omega (arith, twice) in
-        d (sym (logged_here c q y l e h) ∙ (ap (host_of t) same ∙ at))))
+        stands_over lanes lanes' all a (λ c q y l d e h.
+        let apart : host_of t p ≡ b → q ≢ p = λ at same. d (sym (logged_here c q y l e h) ∙ (ap (host_of t) same ∙ at)) in
+        lanes_same lanes lanes' (log_lane q) (moves (log_lane q) (λ at. (away p q (apart at)).0)) (moves (suc (log_lane q)) (λ at. (away p q (apart at)).1)))
 
     pub others_on : OthersStay t (b ∷ []) lanes lanes'
     others_on m clear = moves m (λ at. clear p lt (among (sym at)))

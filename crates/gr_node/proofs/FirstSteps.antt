@@ -1,5 +1,5 @@
 -- The request that is next among steps: its publisher is at a hosted broker, and the others are left behind it
-use Rattle.std.proofs.Common.{◌≡◌, ◌≢◌, ℕ, suc, ◌+◌, ◌<◌, ◌≤◌, Bool, true, false, List, [], ◌∷◌, ◌++◌, length, get_or, drop, Option, Some, None, is_some, ◌&&◌, not, if◌then◌else◌, refl, sym, ap, ◌∙◌, add-one, drop-drop}
+use Rattle.std.proofs.Common.{◌≡◌, ◌≢◌, ℕ, suc, ◌+◌, ◌<◌, ◌≤◌, Bool, true, false, List, [], ◌∷◌, ◌++◌, length, map, get_or, drop, Option, Some, None, is_some, ◌&&◌, not, if◌then◌else◌, refl, sym, ap, ◌∙◌, subst, add-one, drop-drop}
 use Rattle.std.proofs.lemmas.List.{drop_all}
 use Rattle.std.proofs.Math.Seq.{drop-cons}
 use Rattle.gr_event.specs.declared.event.Event.{Event}
@@ -9,6 +9,7 @@ use Rattle.gr_sched.specs.declared.step.Step.{Step}
 use Rattle.gr_sched.specs.declared.step.Step.TheVariants as step
 use Rattle.gr_model.specs.Net.{Net}
 use Rattle.gr_model.specs.Arrivals.{quiet, Request, asks_publish, asks_join, is_hosted, is_scheduled, requests_in, requests_of, left_after}
+use Rattle.gr_node.specs.Plan.{calls, publishes, joins, request_calls}
 use Rattle.gr_node.specs.Turns.{IsFirst}
 
 -- past the last step there is no request
@@ -51,6 +52,31 @@ passed_over net hosted steps at from l h e none so_far =
 one_if : (x : Request) (here : Bool) → ◌≢◌ {A = List Request} (if here then x ∷ [] else []) [] → ◌≡◌ {A = List Request} (if here then x ∷ [] else []) (x ∷ [])
 one_if x true h = refl
 one_if x false h = absurd (h refl)
+
+-- the request of the step at a place is the next one
+request_next : (net : Net) (hosted : List ℕ) (steps : List Line) (next : ℕ) (l : Line) (x : Request) (here : Bool) → next < length steps → l ≡ get_or steps next l
+    → requests_in net hosted l ≡ (if here then x ∷ [] else []) → IsFirst net hosted (drop next steps) → requests_of net hosted (drop next steps) ≡ x ∷ requests_of net hosted (drop (next + 1) steps)
+request_next net hosted steps next l x here lt is one first =
+    let there : drop next steps ≡ l ∷ drop (next + 1) steps = step_there steps next l lt is in
+    let some : requests_in net hosted l ≢ [] = subst (IsFirst net hosted) there first in
+    ap (requests_of net hosted) there ∙ ap (λ (xs : List Request). xs ++ requests_of net hosted (drop (next + 1) steps)) (one ∙ one_if x here (λ e. some (one ∙ e)))
+
+-- so is its call
+pub publish_next : (net : Net) (hosted : List ℕ) (steps : List Line) (next : ℕ) (l : Line) (p number : ℕ) (stop : Option Stop) (e : Event) → next < length steps → l ≡ get_or steps next l
+    → (let x : Line = get_or steps next l in x.step) ≡ step.Publish p number stop e → IsFirst net hosted (drop next steps)
+    → map calls (request_calls (requests_of net hosted (drop next steps))) ≡ calls (publishes (p, (number, e))) ∷ []
+publish_next net hosted steps next l p number stop e lt is step_is first =
+    let at : l.step ≡ step.Publish p number stop e = ap (λ (x : Line). x.step) is ∙ step_is in
+    ap (λ (xs : List Request). map calls (request_calls xs))
+    (request_next net hosted steps next l (asks_publish p number e) (is_scheduled net hosted p) lt is (ap (λ (x : Step). requests_in net hosted (record { number = l.number; step = x })) at) first)
+
+pub join_next : (net : Net) (hosted : List ℕ) (steps : List Line) (next : ℕ) (l : Line) (s p : ℕ) → next < length steps → l ≡ get_or steps next l
+    → (let x : Line = get_or steps next l in x.step) ≡ step.Join s p → IsFirst net hosted (drop next steps)
+    → map calls (request_calls (requests_of net hosted (drop next steps))) ≡ calls (joins s p) ∷ []
+join_next net hosted steps next l s p lt is step_is first =
+    let at : l.step ≡ step.Join s p = ap (λ (x : Line). x.step) is ∙ step_is in
+    ap (λ (xs : List Request). map calls (request_calls xs))
+    (request_next net hosted steps next l (asks_join s p) (is_hosted net hosted p) lt is (ap (λ (x : Step). requests_in net hosted (record { number = l.number; step = x })) at) first)
 
 -- so behind it the others are left
 left_behind_it : (net : Net) (hosted : List ℕ) (number moment : ℕ) (s : Step) (ls : List Line) → requests_in net hosted (record { number = number; step = s }) ≢ []

@@ -38,7 +38,9 @@ use Rattle.gr_model.specs.Headline.{is_sent, sent_number}
 use Rattle.gr_model_theorems.specs.Served.{IsOfBytes, tells_bytes, number_of_bytes, IsHonestAt, IsHonest, IsHonestRun}
 use Rattle.gr_model_theorems.specs.Spelled.{LateIn, NumbersIn}
 use Rattle.gr_model_theorems.specs.Statements.{IsAskedRun}
-use Rattle.gr_model_theorems.specs.Lanes.{AllFollow, whole_logs, IsServedOverLanes}
+use Rattle.gr_model_theorems.specs.Found.{AreReopened}
+use Rattle.gr_model_theorems.specs.Forgets.{kept_logs}
+use Rattle.gr_model_theorems.specs.Lanes.{IsServedOverLanes}
 use Rattle.gr_model_calls.proofs.rules.Serves.{frames_past_all}
 use Rattle.gr_model_theorems.proofs.headline.ReplyLines.{frame_told}
 use Rattle.gr_node.specs.Plan.{Call, gets, publishes, joins, wakes, Act, binds, starts, arrives, calls, answers, drops, settles, closes, shows, is_ours, ours, called, arrival_acts, acts_from, closing, nodes, plan, act, entry_of, offers_of, reply_to, reply_entry, entries, all_entries}
@@ -352,16 +354,16 @@ late_in t sound = record {
     ]
 
 -- So a run of all brokers is one that the theorems speak of
-pub is_served : (t : TopologyView) (steps : List Line) (c : Course) → IsAskedRun (net_of t) steps → NumbersIn steps → length t.brokers ≤ 2 ^ 16 → length t.publishers ≤ 2 ^ 16 → LateIn (net_of t) → AllFollow t.late c.records → AllByRecursion IsOfBytes c.came
-    → IsHonestJournal [] (planned t (numbers (length t.brokers)) steps c) → IsServedOverLanes (net_of t) c.records steps (ours (numbers (length t.brokers)) c.came)
-is_served t steps c asked numbers_in brokers publishers late follow bytes honest =
+pub is_served : (t : TopologyView) (steps : List Line) (c : Course) → IsAskedRun (net_of t) steps → NumbersIn steps → length t.brokers ≤ 2 ^ 16 → length t.publishers ≤ 2 ^ 16 → LateIn (net_of t) → AreReopened (net_of t) (kept_logs c.logs) → AllByRecursion IsOfBytes c.came
+    → IsHonestJournal [] (planned t (numbers (length t.brokers)) steps c) → IsServedOverLanes (net_of t) c.logs steps (ours (numbers (length t.brokers)) c.came)
+is_served t steps c asked numbers_in brokers publishers late found bytes honest =
     let all : List ℕ = numbers (length t.brokers) in
     record {
-      over = record { asked = asked; few = late.few; follow = follow };
+      over = record { asked = asked; found = found };
       brokers = brokers;
       publishers = publishers;
       late = late;
       numbers_in = numbers_in;
       bytes = bytes_ours all c.came bytes;
-      honest = honest_run t all steps c.came c.closed (whole_logs c.records) honest;
+      honest = honest_run t all steps c.came c.closed c.logs honest;
     }

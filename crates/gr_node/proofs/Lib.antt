@@ -2,7 +2,11 @@
 pub mod FirstSteps
 pub mod Keeping
 pub mod OneTurn
+pub mod Ordered
+pub mod Onwards
+pub mod Pairs
 pub mod Lasting
+pub mod Kept
 pub mod SoFar
 pub mod Wending
 pub mod Within

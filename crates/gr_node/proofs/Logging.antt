@@ -1,34 +1,38 @@
 -- What the machine's acts log for a publisher: each event takes the number behind the last and has its line, and no other line says so
-use Rattle.std.proofs.Common.{◌≡◌, ◌≢◌, ◌⊎◌, inl, inr, ℕ, suc, ◌+◌, ◌≤◌, ◌<◌, max, Bool, true, false, List, [], ◌∷◌, ◌++◌, map, length, get_or, set, Option, Some, None, Result, Ok, Err, refl, sym, ap, ap₂, ◌∙◌, subst, arith, append-nil, append_assoc, length-append, length-set}
+use Rattle.std.proofs.Common.{◌≡◌, ◌≢◌, ◌⊎◌, inl, inr, ℕ, suc, ◌+◌, ◌≤◌, ◌<◌, max, Bool, true, false, List, [], ◌∷◌, ◌++◌, map, length, get_or, set, Option, Some, None, Result, Ok, Err, refl, sym, ap, ap₂, ◌∙◌, subst, arith, append-nil, append_assoc, length-append, length-set, le_refl, le_of_eq}
 use Rattle.std.specs.Prelude.{nat_eq, nat_lt, nat_le, if◌then◌else◌, filter, flat_map}
 use Rattle.std.specs.List.{AllByRecursion}
-use Rattle.std.proofs.lemmas.Bool.{cases_eq, eq-eqb, ne_eqb, lt-leb, le-ltb}
+use Rattle.std.proofs.lemmas.Bool.{cases_eq, eq-eqb, ne_eqb, lt-leb, le-ltb, leb-true}
 use Rattle.std.proofs.lemmas.List.{get_or-set_same, get_or-set_other}
 use Rattle.std.proofs.lemmas.List.Elements.{filter-append}
 use Rattle.gr_event.specs.declared.event.Event.{Event}
 use Rattle.gr_event.specs.declared.join.Split.{Split}
-use Rattle.gr_event.specs.Joins.{first_split}
+use Rattle.gr_event.specs.Joins.{Joins, first_split}
 use Rattle.gr_frame.specs.declared.Body.{Body}
 use Rattle.gr_frame.specs.declared.Body.TheVariants as body
 use Rattle.gr_frame.specs.declared.Frame.{Frame}
 use Rattle.gr_frame.specs.declared.fault.FrameFault.{FrameFault}
 use Rattle.gr_know.specs.Values.{Known}
+use Rattle.gr_pubend.specs.Log.{past}
+use Rattle.gr_pubend.proofs.Found.{past_twice}
 use Rattle.gr_pubend.specs.declared.answers.Joined.TheVariants as joined
 use Rattle.gr_pubend.specs.declared.answers.Published.TheVariants as published
 use Rattle.gr_model.specs.declared.report.Report.{Report}
 use Rattle.gr_model.specs.declared.report.Report.TheVariants as line
 use Rattle.gr_model.specs.Net.{Net, is_host, keeps_horizon, not_empty, numbers}
-use Rattle.gr_model.specs.Broker.{View, Log, Outcome, empty_log, max_tick, with_event, with_join, with_joins, silence, got_line, delivery_lines, learn, publish, publish_by, marking, cutting, wake, wake_host, wake_below, asking, receive, joining, joining_by, seen, taking, view_joined}
+use Rattle.gr_model.specs.Broker.{View, Log, Outcome, empty_log, max_tick, with_event, with_mark, with_join, with_joins, silence, got_line, delivery_lines, learn, publish, publish_by, marking, cutting, cutting_lines, wake, wake_host, wake_below, asking, receive, joining, joining_by, seen, taking, view_joined}
 use Rattle.gr_model.specs.World.{World, Transition, view_of, log_of, absorbed, unchanged, followed_by, in_turn, sent_lines, sent_line, kept_events, publish_now_by, join_now_by, wake_for_by, deliver_frame, deliver_frame_by}
-use Rattle.gr_model.specs.Headline.{Recorded, publish_line, marked, settling}
+use Rattle.gr_model.specs.Headline.{Recorded, publish_line}
 use Rattle.gr_model.specs.Opening.{reopened_line, opened_for, opened_for_by, publishers_at}
 use Rattle.gr_model.specs.Arrivals.{at_moment, fault_number, fits_broker, joins_in, least_clash, clash_line, split_line, takes, takes_by, receives, receives_by, is_hosted, show_hosted}
-use Rattle.gr_model_calls.proofs.calls.HostCases.{publish_cases, joining_cases, news_of}
+use Rattle.gr_model_calls.proofs.calls.HostCases.{publish_cases, marking_cases, joining_cases, news_of}
+use Rattle.gr_model_calls.proofs.calls.Cutting.{cut_cases, cut_at, cutting_cases}
 use Rattle.gr_model_calls.proofs.calls.Calls.{learn_log}
-use Rattle.gr_model_theorems.proofs.records.Records.{core, receive_log, wake_core}
-use Rattle.gr_model_theorems.proofs.records.RecordLines.{Skips, host_lines, receive_none, publish_some, marking_none}
+use Rattle.gr_model_theorems.proofs.records.Records.{core, receive_log}
+use Rattle.gr_model_theorems.proofs.records.RecordLines.{Skips, receive_none, publish_some, marking_none}
 use Rattle.gr_node.specs.Plan.{gets, publishes, joins, wakes, Act, binds, starts, arrives, calls, answers, drops, settles, closes, shows, is_ours, moment_of, act}
-use Rattle.gr_node.specs.Submitted.{is_logged, logged_as, Logs}
+use Rattle.gr_node.specs.Submitted.{RiseWithin, is_logged, logged_as, Logs}
+use Rattle.gr_node.proofs.Onwards.{past_later, past_on}
 
 -- What was logged
 
@@ -55,14 +59,56 @@ pub record Adds (p : ℕ) (P : ℕ → Event → Type 0) (before after : Log) (t
   pub logs : Logs p before after told new
   pub each : EachLogged P (suc before.last) new
 
+-- a log that got no event
+record IsStill (log after : Log) : Type 0 where
+  last : after.last ≡ log.last
+  settled : log.settled ≤ after.settled
+  cut : log.cut ≤ after.cut
+  events : past after.cut after.events ≡ past after.cut log.events
+  joined : (more : Joins) × (after.joins ≡ log.joins ++ more)
+
+still_same : (log after : Log) → after ≡ log → IsStill log after
+still_same log after e = record {
+  last = ap (λ (l : Log). l.last) e;
+  settled = le_of_eq (sym (ap (λ (l : Log). l.settled) e));
+  cut = le_of_eq (sym (ap (λ (l : Log). l.cut) e));
+  events = ap (past after.cut) (ap (λ (l : Log). l.events) e);
+  joined = ([], ap (λ (l : Log). l.joins) e ∙ sym (append-nil log.joins));
+}
+
+still_then : (a b c : Log) → IsStill a b → IsStill b c → IsStill a c
+still_then a b c x y = record {
+  last = y.last ∙ x.last;
+  settled = omega (arith, x.settled, y.settled);
+  cut = omega (arith, x.cut, y.cut);
+  events = y.events ∙ past_later b.cut c.cut b.events a.events y.cut x.events;
+  joined = (x.joined.0 ++ y.joined.0, y.joined.1 ∙ (ap (λ (js : Joins). js ++ y.joined.0) x.joined.1 ∙ append_assoc a.joins x.joined.0 y.joined.0));
+}
+
+-- ticks rise on
+pub rise_on : (a b c : ℕ) (xs ys : List (ℕ × Event)) → RiseWithin a b xs → RiseWithin b c ys → RiseWithin a c (xs ++ ys)
+rise_on a b c [] [] x y = omega (arith, x, y)
+rise_on a b c [] (z ∷ ys) x y = (omega (arith, x, y.0), y.1)
+rise_on a b c (z ∷ xs) ys x y = (x.0, rise_on z.0 b c xs ys x.1 y)
+
 module _ (p : ℕ) (P : ℕ → Event → Type 0) where
   -- or none
-  pub adds_none : (before after : Log) (told : List Report) → after.events ≡ before.events → after.last ≡ before.last → filter (is_logged p) told ≡ [] → Adds p P before after told
-  adds_none before after told events last none = record {
+  adds_none : (before after : Log) (told : List Report) → IsStill before after → filter (is_logged p) told ≡ [] → Adds p P before after told
+  adds_none before after told still none = record {
     new = [];
-    logs = record { events = events ∙ sym (append-nil before.events); last = omega (arith, last); lines = none };
+    logs = record {
+      ticks = still.settled;
+      cut = still.cut;
+      joined = still.joined;
+      events = still.events ∙ ap (past after.cut) (sym (append-nil before.events));
+      last = let e = still.last in omega (arith, e);
+      lines = none;
+    };
     each = tt;
   }
+
+  adds_same : (log : Log) (told : List Report) → filter (is_logged p) told ≡ [] → Adds p P log log told
+  adds_same log told none = adds_none log log told (still_same log log refl) none
 
   -- some, and then more
   pub adds_on : (a b c : Log) (ls ms : List Report) → Adds p P a b ls → Adds p P b c ms → Adds p P a c (ls ++ ms)
@@ -71,7 +117,10 @@ module _ (p : ℕ) (P : ℕ → Event → Type 0) where
       record {
         new = x.new ++ y.new;
         logs = record {
-          events = y.logs.events ∙ (ap (λ (es : List (ℕ × Event)). es ++ y.new) x.logs.events ∙ append_assoc a.events x.new y.new);
+          ticks = rise_on a.settled b.settled c.settled x.new y.new x.logs.ticks y.logs.ticks;
+          cut = omega (arith, x.logs.cut, y.logs.cut);
+          joined = (x.logs.joined.0 ++ y.logs.joined.0, y.logs.joined.1 ∙ (ap (λ (js : Joins). js ++ y.logs.joined.0) x.logs.joined.1 ∙ append_assoc a.joins x.logs.joined.0 y.logs.joined.0));
+          events = past_on b.cut c.cut a.events b.events c.events x.new y.new y.logs.cut x.logs.events y.logs.events;
           last = omega (arith, x.logs.last, y.logs.last, length-append x.new y.new);
           lines = filter-append (is_logged p) ls ms
               ∙ (ap₂ (λ (xs ys : List Report). xs ++ ys) x.logs.lines (y.logs.lines ∙ ap (λ k. logged_as p k y.new) next)
@@ -124,18 +173,25 @@ woken_unlogged p net q b now v log = go (is_host net q b)
     cut : Log
     cut = cutting net q b o.view o.log
 
-    two : (c d : Bool) → filter (is_logged p) (host_lines q now cut.cut c d) ≡ []
-    two true true = refl
-    two true false = refl
-    two false true = refl
-    two false false = refl
+    marked : List Report
+    marked = if nat_lt log.settled o.log.settled then line.Mark q now ∷ [] else []
+
+    mark_unlogged : (c : Bool) → filter (is_logged p) (if c then line.Mark q now ∷ [] else []) ≡ []
+    mark_unlogged true = refl
+    mark_unlogged false = refl
+
+    cut_unlogged : (c d : Bool) → filter (is_logged p) (if c then line.Cut q cut.cut ∷ (if d then line.Reclaimed q cut.generation ∷ [] else []) else []) ≡ []
+    cut_unlogged true true = refl
+    cut_unlogged true false = refl
+    cut_unlogged false d = refl
 
     go : (c : Bool) → filter (is_logged p) (let u : Outcome = elim c [ true ↦ wake_host net q b now v log | false ↦ wake_below net q b now v log ] in u.lines) ≡ []
     go true =
-        let c = nat_lt log.settled o.log.settled in
-        let d = nat_lt o.log.cut cut.cut in
-        filter-append (is_logged p) (host_lines q now cut.cut c d) o.lines
-        ∙ ap₂ (λ (x y : List Report). x ++ y) (two c d) (marking_none (is_logged p) net q b now v log (logged_skip p))
+        filter-append (is_logged p) (marked ++ cutting_lines q o.log cut) o.lines
+        ∙ ap₂ (λ (x y : List Report). x ++ y)
+        (filter-append (is_logged p) marked (cutting_lines q o.log cut)
+        ∙ ap₂ (λ (x y : List Report). x ++ y) (mark_unlogged (nat_lt log.settled o.log.settled)) (cut_unlogged (nat_lt o.log.cut cut.cut) (nat_lt o.log.generation cut.generation)))
+        (marking_none (is_logged p) net q b now v log (logged_skip p))
     go false = refl
 
 sent_unlogged : (p n : ℕ) (fs : List Frame) → filter (is_logged p) (sent_lines n fs) ≡ []
@@ -174,23 +230,26 @@ record Called (p : ℕ) (P : ℕ → Event → Type 0) (q : ℕ) (log : Log) (o 
 
 module _ (p : ℕ) (P : ℕ → Event → Type 0) where
   -- a call that leaves numbers and events
-  quiet_call : (q : ℕ) (log : Log) (o : Outcome) → o.log.events ≡ log.events → o.log.last ≡ log.last → filter (is_logged p) o.lines ≡ [] → Called p P q log o
-  quiet_call q log o events last none = record { here = λ e. adds_none p P log o.log o.lines events last none; other = λ ne. none }
+  quiet_call : (q : ℕ) (log : Log) (o : Outcome) → IsStill log o.log → filter (is_logged p) o.lines ≡ [] → Called p P q log o
+  quiet_call q log o still none = record { here = λ e. adds_none p P log o.log o.lines still none; other = λ ne. none }
 
   -- a publish logs its event where it has the next number
   publish_adds : (net : Net) (b now number : ℕ) (e : Event) (v : View) (log : Log) → P number e → Adds p P log (publish net p b now number e v log).log (publish net p b now number e v log).lines
   publish_adds net b now number e v log is =
       publish_cases net p b now number e v log (λ o. filter (is_logged p) o.lines ≡ filter (is_logged p) (publish_line p now number (core log) ∷ []) → Adds p P log o.log o.lines)
-      (λ l told. adds_none p P log log _ refl refl refl)
-      (λ l told. adds_none p P log log _ refl refl refl)
-      (λ x l told. adds_none p P log log _ refl refl refl)
+      (λ l told. adds_same p P log _ refl)
+      (λ l told. adds_same p P log _ refl)
+      (λ x l told. adds_same p P log _ refl)
       (λ x l told.
       let o : Outcome = publish_by net p b number e v log (published.Logged tick (news_of log tick e)) in
       let kept : o.log ≡ with_event log tick e = learn_log net p b (news_of log tick e) v (with_event log tick e) in
       record {
         new = (tick, e) ∷ [];
         logs = record {
-          events = ap (λ (m : Log). m.events) kept;
+          ticks = let e : o.log.settled ≡ tick = ap (λ (m : Log). m.settled) kept in (omega arith, omega (arith, e));
+          cut = le_of_eq (sym (ap (λ (m : Log). m.cut) kept));
+          joined = ([], ap (λ (m : Log). m.joins) kept ∙ sym (append-nil log.joins));
+          events = ap (past o.log.cut) (ap (λ (m : Log). m.events) kept);
           last = ap (λ (m : Log). m.last) kept ∙ omega arith;
           lines = told ∙ line_is x l;
         };
@@ -215,10 +274,11 @@ module _ (p : ℕ) (P : ℕ → Event → Type 0) where
   unfolding learn
   joining_called net q b now s v log =
       joining_cases net q b now s v log (λ o. Called p P q log o)
-      (λ has. record { here = λ e. adds_none p P log log _ refl refl refl; other = λ ne. refl })
-      (λ has past. record { here = λ e. adds_none p P log log _ refl refl refl; other = λ ne. refl })
+      (λ has. record { here = λ e. adds_same p P log _ refl; other = λ ne. refl })
+      (λ has past. record { here = λ e. adds_same p P log _ refl; other = λ ne. refl })
       (λ has upto.
-      quiet_call q log (joining_by net q b s v log (joined.Logged tick (silence (suc log.settled) tick []))) refl refl
+      quiet_call q log (joining_by net q b s v log (joined.Logged tick (silence (suc log.settled) tick [])))
+      (record { last = refl; settled = omega arith; cut = le_refl log.cut; events = refl; joined = (record { subscriber = s; tick = tick } ∷ [], refl) })
       (learned_unlogged p net q b (silence (suc log.settled) tick []) (with_joins v next.joins) next))
     where
       tick : ℕ
@@ -227,34 +287,50 @@ module _ (p : ℕ) (P : ℕ → Event → Type 0) where
       next : Log
       next = with_join log tick s
 
-  wake_called : (net : Net) (q b now : ℕ) (v : View) (log : Log) → Called p P q log (wake net q b now v log)
-  wake_called net q b now v log =
-      let r : core (wake net q b now v log).log ≡ (if is_host net q b then marked net now (core log) else core log) = wake_core net q b now v log in
-      quiet_call q log (wake net q b now v log)
-      (ap (λ (c : Recorded). c.events) r ∙ events (is_host net q b) (nat_le (log.settled + net.quiet) now))
-      (ap (λ (c : Recorded). c.last) r ∙ last (is_host net q b) (nat_le (log.settled + net.quiet) now))
-      (woken_unlogged p net q b now v log)
-    where
-      events : (x y : Bool) → (let c : Recorded = if x then (if y then settling now (core log) else core log) else core log in c.events) ≡ log.events
-      events true true = refl
-      events true false = refl
-      events false y = refl
+  -- a mark, and a cut, get no event
+  marked_still : (net : Net) (q b now : ℕ) (v : View) (log : Log) → IsStill log (marking net q b now v log).log
+  marked_still net q b now v log =
+      marking_cases net q b now v log (λ o. IsStill log o.log)
+      (λ e. let kept = learn_log net q b (silence (suc log.settled) now []) v (with_mark log now) in
+      let upto : log.settled ≤ now = omega (arith, leb-true (log.settled + net.quiet) now e) in
+      subst (λ (m : Log). IsStill log m) (sym kept) (record { last = refl; settled = upto; cut = le_refl log.cut; events = refl; joined = ([], sym (append-nil log.joins)) }))
+      (λ e. still_same log log refl)
 
-      last : (x y : Bool) → (let c : Recorded = if x then (if y then settling now (core log) else core log) else core log in c.last) ≡ log.last
-      last true true = refl
-      last true false = refl
-      last false y = refl
+  cut_still : (net : Net) (q b : ℕ) (v : View) (log : Log) → IsStill log (cutting net q b v log)
+  cut_still net q b v log =
+      cutting_cases net q b v log (IsStill log) (still_same log log refl)
+      (λ later. cut_cases net.reclaim log (cut_at net q b v log) (IsStill log)
+      (record { last = refl; settled = le_refl log.settled; cut = omega (arith, later); events = dropped (cut_at net q b v log) log.forgets; joined = ([], sym (append-nil log.joins)) })
+      (record { last = refl; settled = le_refl log.settled; cut = omega (arith, later); events = dropped (cut_at net q b v log) log.forgets; joined = ([], sym (append-nil log.joins)) }))
+    where
+      dropped : (t : ℕ) (forgets : Bool) → past t (if forgets then past t log.events else log.events) ≡ past t log.events
+      dropped t true = past_twice t t log.events (le_refl t)
+      dropped t false = refl
+
+  woken_still : (net : Net) (q b now : ℕ) (v : View) (log : Log) → IsStill log (wake net q b now v log).log
+  unfolding wake wake_host wake_below asking
+  woken_still net q b now v log = go (is_host net q b)
+    where
+      o : Outcome
+      o = marking net q b now v log
+
+      go : (c : Bool) → IsStill log (let u : Outcome = elim c [ true ↦ wake_host net q b now v log | false ↦ wake_below net q b now v log ] in u.log)
+      go true = still_then log o.log (cutting net q b o.view o.log) (marked_still net q b now v log) (cut_still net q b o.view o.log)
+      go false = still_same log log refl
+
+  wake_called : (net : Net) (q b now : ℕ) (v : View) (log : Log) → Called p P q log (wake net q b now v log)
+  wake_called net q b now v log = quiet_call q log (wake net q b now v log) (woken_still net q b now v log) (woken_unlogged p net q b now v log)
 
   receive_called : (net : Net) (now : ℕ) (f : Frame) (v : View) (log : Log) → Called p P f.head.publisher log (receive net now f v log)
   receive_called net now f v log =
       let e : (receive net now f v log).log ≡ log = receive_log net now f v log in
-      quiet_call f.head.publisher log (receive net now f v log) (ap (λ (l : Log). l.events) e) (ap (λ (l : Log). l.last) e)
+      quiet_call f.head.publisher log (receive net now f v log) (still_same log (receive net now f v log).log e)
       (receive_none (is_logged p) net now f v log (logged_skip p))
 
   learn_called : (net : Net) (q b : ℕ) (piece : Known) (v : View) (log : Log) → Called p P q log (learn net q b piece v log)
   learn_called net q b piece v log =
       let e : (learn net q b piece v log).log ≡ log = learn_log net q b piece v log in
-      quiet_call q log (learn net q b piece v log) (ap (λ (l : Log). l.events) e) (ap (λ (l : Log). l.last) e) (learned_unlogged p net q b piece v log)
+      quiet_call q log (learn net q b piece v log) (still_same log (learn net q b piece v log).log e) (learned_unlogged p net q b piece v log)
 
   -- Worlds
 
@@ -262,8 +338,7 @@ module _ (p : ℕ) (P : ℕ → Event → Type 0) where
   grows_none : (w : World) (t : Transition) → t.world.logs ≡ w.logs → filter (is_logged p) t.lines ≡ [] → Grows p P w t
   grows_none w t e none = record {
     adds = adds_none p P (log_of w p) (log_of t.world p) t.lines
-        (ap (λ (ls : List Log). let l : Log = get_or ls p empty_log in l.events) e)
-        (ap (λ (ls : List Log). let l : Log = get_or ls p empty_log in l.last) e) none;
+        (still_same (log_of w p) (log_of t.world p) (ap (λ (ls : List Log). get_or ls p empty_log) e)) none;
     long = ap length e;
   }
 
@@ -299,10 +374,10 @@ module _ (p : ℕ) (P : ℕ → Event → Type 0) where
       go (inl e) =
           subst (λ k. Adds p P (log_of w p) (get_or (set w.logs k o.log) p empty_log) (o.lines ++ sent)) (sym e)
           (subst (λ (l : Log). Adds p P (log_of w p) l (o.lines ++ sent)) (sym (get_or-set_same w.logs p o.log empty_log below))
-          (adds_on p P (log_of w p) o.log o.log o.lines sent (subst (λ k. Adds p P (log_of w k) o.log o.lines) e (c.here e)) (adds_none p P o.log o.log sent refl refl unsent)))
+          (adds_on p P (log_of w p) o.log o.log o.lines sent (subst (λ k. Adds p P (log_of w k) o.log o.lines) e (c.here e)) (adds_same p P o.log sent unsent)))
       go (inr ne) =
           let stays : get_or (set w.logs q o.log) p empty_log ≡ log_of w p = get_or-set_other w.logs q p o.log empty_log (λ h. ne (sym h)) in
-          adds_none p P (log_of w p) (get_or (set w.logs q o.log) p empty_log) (o.lines ++ sent) (ap (λ (l : Log). l.events) stays) (ap (λ (l : Log). l.last) stays)
+          adds_none p P (log_of w p) (get_or (set w.logs q o.log) p empty_log) (o.lines ++ sent) (still_same (log_of w p) (get_or (set w.logs q o.log) p empty_log) stays)
           (filter-append (is_logged p) o.lines sent ∙ ap₂ (λ (x y : List Report). x ++ y) (c.other ne) unsent)
 
   -- a datagram's frame

@@ -1,6 +1,6 @@
 -- What a node does act by act is what the machine does: the broker that is called answers and leaves what the machine's call tells and
 -- leaves, so both tell, number and send the same
-use Rattle.std.proofs.Common.{◌≡◌, ◌≢◌, ◌⊎◌, inl, inr, ℕ, suc, ◌+◌, ◌<◌, Bool, true, false, ◌&&◌, ◌||◌, List, [], ◌∷◌, ◌++◌, length, min, set, Option, Some, None, Result, Ok, Err, refl, sym, ap, ap₂, ◌∙◌, subst, arith, append-nil, flat_map}
+use Rattle.std.proofs.Common.{◌≡◌, ◌≢◌, ◌⊎◌, inl, inr, ℕ, suc, ◌+◌, ◌^◌, ◌<◌, Bool, true, false, ◌&&◌, ◌||◌, List, [], ◌∷◌, ◌++◌, length, min, set, Option, Some, None, Result, Ok, Err, refl, sym, ap, ap₂, ◌∙◌, subst, arith, append-nil, flat_map}
 use Rattle.std.specs.Prelude.{is_some, nat_eq, nat_lt, if◌then◌else◌}
 use Rattle.std.specs.List.{AllByRecursion}
 use Rattle.std.proofs.lemmas.Bool.{cases_eq, eq-eqb, ne_eqb, eqb-true, ltb-true, and_parts, or_right, true≢false}
@@ -14,38 +14,38 @@ use Rattle.gr_out.specs.Entry.{Entry}
 use Rattle.gr_out.specs.Journal.{is_among}
 use Rattle.gr_know.specs.Values.{known_at}
 use Rattle.gr_publog.specs.declared.record.Record.{Record}
-use Rattle.gr_publog.specs.Crash.{LogView}
-use Rattle.gr_publog.specs.Calls.{records_with}
-use Rattle.gr_pubend.specs.Log.{log_of as log_made}
-use Rattle.gr_pubend.specs.declared.answers.Joined.{Joined}
-use Rattle.gr_pubend.specs.declared.answers.Joined.TheVariants as answer
-use Rattle.gr_pubend.specs.Answers.{quieted, joined_at, mark_of, quiet_logs, join_of}
-use Rattle.gr_pubend.proofs.Knowing.{log_with_join}
+use Rattle.gr_publog.specs.Views.{LogView}
+use Rattle.gr_publog.specs.Calls.{appended_if}
+use Rattle.gr_pubend.specs.Log.{said}
+use Rattle.gr_pubend.specs.Answers.{published, quieted, joined_at, event_of, mark_of, quiet_logs, join_of}
+use Rattle.gr_pubend.specs.Cuts.{cut_if}
 use Rattle.gr_topo.specs.Topology.{TopologyView, host_of}
 use Rattle.gr_model.specs.declared.report.Report.{Report}
 use Rattle.gr_model.specs.declared.report.Report.TheVariants as line
 use Rattle.gr_model.specs.Net.{Net, is_host, keeps_horizon, numbers}
 use Rattle.gr_model.specs.NetOf.{net_of}
-use Rattle.gr_model.specs.Broker.{View, Log, Outcome as MachineOutcome, empty_log, max_tick, publish, joining, joining_by, learn, marking, wake, wake_host, wake_below, receive, seen, taking, view_joined}
+use Rattle.gr_model.specs.Broker.{View, Log, Outcome as MachineOutcome, empty_log, max_tick, publish, marking, wake, wake_host, wake_below, receive, seen, taking}
 use Rattle.gr_model.specs.World.{World, Transition, view_of, log_of, absorbed, unchanged, in_turn, frames_past, wake_for, wake_for_by, publish_now, publish_now_by, join_now, join_now_by, deliver_frame, deliver_frame_by}
 use Rattle.gr_model.specs.Arrivals.{Arrival, at_moment, fault_number, fits_broker, joins_in, joins_fit, least_clash, clash_line, split_line, takes, takes_by, receives, receives_by, is_hosted, show_hosted}
 use Rattle.gr_model.specs.Orders.{Order, fed, without_ordered}
 use Rattle.gr_model_calls.proofs.rules.Serves.{frames_past_all}
 use Rattle.gr_model_theorems.proofs.server.CutEvents.{on_log}
-use Rattle.gr_broker.specs.Seen.{BrokerView, view_in, log_in, log_said, machine_log, with_view, with_logged, logged_at}
-use Rattle.gr_broker.specs.Hosted.{publish_at, publish_logs_at, join_with, join_at, join_logs_at, wake_at, mark_logs_at, cut_logs, cut_logs_at, after_wake, logged}
+use Rattle.gr_broker_relay.specs.Cuts.{tick_cut}
+use Rattle.gr_broker.specs.Seen.{BrokerView, view_in, log_in, log_said, machine_log, with_view, with_logged, with_cut_if, logged_at}
+use Rattle.gr_broker.specs.Hosted.{publish_at, publish_logs_at, join_with, join_at, join_logs_at, wake_at, mark_logs_at, cut_at, after_wake}
 use Rattle.gr_broker.specs.Receipt.{Receipt, stray, split, clash, taken, came_at, receipt, receipt_of_fit, after_receipt}
 use Rattle.gr_broker.proofs.Hosted.{marking_log_is, cutting_log_is}
-use Rattle.gr_broker.proofs.Parts.{said_after}
+use Rattle.gr_broker.proofs.Parts.{said_after, said_joined}
 use Rattle.gr_report.proofs.Along.{flat_map_same}
 use Rattle.gr_report.proofs.Passing.{PassesLog, PassesRest, wake_passes, receive_passes}
-use Rattle.gr_node.specs.Seen.{NodeView, broker_in, records_at, records_in}
+use Rattle.gr_node.specs.Seen.{NodeView, broker_in, log_at, log_here}
 use Rattle.gr_node.specs.Of.{Hosts}
 use Rattle.gr_node.specs.Plan.{Call, gets, publishes, joins, wakes, Act, binds, starts, arrives, calls, answers, drops, settles, closes, shows, is_ours, moment_of, offers_of, reply_entry, called, act, entries, all_entries, told_by, heard_by, told_by_acts}
 use Rattle.gr_node.specs.Done.{Done, broker_of, taken_up, receipt_lines, receipt_frames, done_by, done_at, call_done, log_shown, log_shown_in, logs_shown, doubt_shown, doubts_by, doubts_shown, shown, done, all_done}
 pub use Rattle.gr_node.proofs.Taken.{IsShaped, IsNode}
 use Rattle.gr_model_theorems.proofs.order.Unheard.{IsUnheard, fed_nothing, fed_unheard, fed_sent, shown_unheard}
-use Rattle.gr_node.proofs.Taken.{node_heard, Does, offers_since, broker_here, said_by, exchanges_log, exchanges_view, logged_some, taken_is}
+use Rattle.gr_node.proofs.Taken.{node_heard, Does, offers_since, broker_here, exchanges_log, exchanges_view, logged_some, cut_some, taken_is}
+use Rattle.gr_node.proofs.Ordered.{IsOrdered, ordered_publish, ordered_mark, ordered_join, ordered_logged, ordered_cut_if}
 
 -- Acts that a node may do
 
@@ -53,7 +53,7 @@ use Rattle.gr_node.proofs.Taken.{node_heard, Does, offers_since, broker_here, sa
 abbrev pub IsCallOf : TopologyView → List ℕ → Call → Type 0
 IsCallOf t hosted (gets b r) = is_among hosted b ≡ true
 IsCallOf t hosted (publishes x) = (x.0 < length t.publishers) × (is_among hosted (host_of t x.0) ≡ true)
-IsCallOf t hosted (joins s p) = (p < length t.publishers) × (is_among hosted (host_of t p) ≡ true)
+IsCallOf t hosted (joins s p) = (p < length t.publishers) × ((is_among hosted (host_of t p) ≡ true) × (s < 2 ^ 16))
 IsCallOf t hosted (wakes b p) = (is_among hosted b ≡ true) × (p < length t.publishers)
 
 -- an act once the hosted brokers have started
@@ -70,22 +70,21 @@ IsActOf t hosted (starts b) = ⊥
 
 -- The log after a wake at the host
 
-with_logged_is : (l : LogView) (r : Option Record) → with_logged (Some l) r ≡ Some (logged l r)
-with_logged_is l None = refl
-with_logged_is l (Some r) = refl
+with_cut_is : (l : LogView) (r : Option Record) (cut : Option ℕ) (reclaim : ℕ) → log_said (with_cut_if (with_logged (Some l) r) cut reclaim) ≡ said (cut_if cut reclaim (appended_if r l))
+with_cut_is l None cut reclaim = refl
+with_cut_is l (Some r) cut reclaim = refl
 
-woken_log : (net : Net) (p b now : ℕ) (v : View) (l : LogView)
-    → (let m : MachineOutcome = marking net p b now v (log_made l.records) in
-    log_said (with_logged (with_logged (Some l) (quiet_logs l.records now net.quiet)) (cut_logs net p b m.view m.log)))
-    ≡ (wake_host net p b now v (log_made l.records)).log
+woken_log : (net : Net) (p b now : ℕ) (v : View) (l : LogView) → IsOrdered l.state
+    → (let m : MachineOutcome = marking net p b now v (said l) in
+    log_said (with_cut_if (with_logged (Some l) (quiet_logs (said l) now net.quiet)) (tick_cut net p b m.view m.log) net.reclaim))
+    ≡ (wake_host net p b now v (said l)).log
 unfolding wake_host
-woken_log net p b now v l =
-    let m : MachineOutcome = marking net p b now v (log_made l.records) in
-    let mark : Option Record = quiet_logs l.records now net.quiet in
-    let cut : Option Record = cut_logs net p b m.view m.log in
-    ap (λ (o : Option LogView). log_said (with_logged o cut)) (with_logged_is l mark)
-    ∙ (ap log_said (with_logged_is (logged l mark) cut)
-    ∙ cutting_log_is net p b m.view (records_with l.records mark) m.log (marking_log_is net p b now v l.records))
+woken_log net p b now v l ordered =
+    let m : MachineOutcome = marking net p b now v (said l) in
+    let mark : Option Record = quiet_logs (said l) now net.quiet in
+    let after : IsOrdered (appended_if mark l).state = ordered_mark l ordered now net.quiet in
+    with_cut_is l mark (tick_cut net p b m.view m.log) net.reclaim
+    ∙ cutting_log_is net p b m.view (appended_if mark l) m.log after.rise after.apart (marking_log_is net p b now v l)
 
 wake_at_host : (net : Net) (p b now : ℕ) (v : View) (l : Log) → is_host net p b ≡ true → wake net p b now v l ≡ wake_host net p b now v l
 unfolding wake
@@ -93,34 +92,19 @@ wake_at_host net p b now v l e =
     ap (λ (q : Bool). let o : MachineOutcome = elim q [ true ↦ wake_host net p b now v l | false ↦ wake_below net p b now v l ] in o) e
 
 -- what the log of a publisher here is then
-said_woken : (t : TopologyView) (x : BrokerView) (p now : ℕ) → is_host (net_of t) p x.number ≡ true → is_some (log_in x p) ≡ true
-    → log_said (with_logged (with_logged (log_in x p) (mark_logs_at t x p now)) (cut_logs_at t x p now))
+said_woken : (t : TopologyView) (x : BrokerView) (p now : ℕ) → is_host (net_of t) p x.number ≡ true → is_some (log_in x p) ≡ true → ((l : LogView) → log_in x p ≡ Some l → IsOrdered l.state)
+    → log_said (with_cut_if (with_logged (log_in x p) (mark_logs_at t x p now)) (cut_at t x p now) t.settings.reclaim)
     ≡ (let o : MachineOutcome = wake_at t x p now in o.log)
-said_woken t x p now host some = go (log_in x p) some
+said_woken t x p now host some ordered = go (log_in x p) some ordered
   where
-    go : (s : Option LogView) → is_some s ≡ true
+    go : (s : Option LogView) → is_some s ≡ true → ((l : LogView) → s ≡ Some l → IsOrdered l.state)
         → (let m : MachineOutcome = marking (seen (net_of t) (view_in x p)) p x.number now (view_in x p) (log_said s) in
-        log_said (with_logged (with_logged s (mark_of (quieted (log_said s) now t.settings.quiet))) (cut_logs (net_of t) p x.number m.view m.log)))
+        log_said (with_cut_if (with_logged s (mark_of (quieted (log_said s) now t.settings.quiet))) (tick_cut (net_of t) p x.number m.view m.log) t.settings.reclaim))
         ≡ (let o : MachineOutcome = wake (seen (net_of t) (view_in x p)) p x.number now (view_in x p) (log_said s) in o.log)
-    go None e = absurd (true≢false (sym e))
-    go (Some l) e =
-        woken_log (seen (net_of t) (view_in x p)) p x.number now (view_in x p) l
-        ∙ sym (ap (λ (o : MachineOutcome). o.log) (wake_at_host (seen (net_of t) (view_in x p)) p x.number now (view_in x p) (log_made l.records) host))
-
--- and what it is after a join
-said_joined : (net : Net) (p b s now : ℕ) (v : View) (o : Option LogView) → is_some o ≡ true
-    → log_said (with_logged o (join_of (joined_at (log_said o) s now) s)) ≡ (join_with net p b now s v (log_said o)).log
-unfolding joining learn
-said_joined net p b s now v None some = absurd (true≢false (sym some))
-said_joined net p b s now v (Some l) some = go (joined_at (log_made l.records) s now)
-  where
-    shown : Net
-    shown = seen net (view_joined (log_made l.records) s now v)
-
-    go : (a : Joined) → log_said (with_logged (Some l) (join_of a s)) ≡ (let o : MachineOutcome = joining_by shown p b s v (log_made l.records) a in o.log)
-    go (answer.Logged tick fresh) = log_with_join l.records tick s
-    go answer.Already = refl
-    go answer.Exhausted = refl
+    go None e h = absurd (true≢false (sym e))
+    go (Some l) e h =
+        woken_log (seen (net_of t) (view_in x p)) p x.number now (view_in x p) l (h l refl)
+        ∙ sym (ap (λ (o : MachineOutcome). o.log) (wake_at_host (seen (net_of t) (view_in x p)) p x.number now (view_in x p) (said l) host))
 
 -- The calls
 
@@ -189,11 +173,11 @@ module _ (t : TopologyView) (hosted : List ℕ) (n : NodeView) (w : World) (i : 
     long_there : p < length x.logs
     long_there = omega (arith, below, shape_there.logs)
 
-    host_does : log_said (with_logged (log_in x p) r) ≡ call_made.log
+    host_does : log_said (with_logged (log_in x p) r) ≡ call_made.log → ((l : LogView) → log_in x p ≡ Some l → IsOrdered (appended_if r l).state)
         → Does t hosted (taken_up n there (logged_at x p r call_made.view) call_made.lines call_made.frames) (absorbed w there p call_there) (offers_since w (absorbed w there p call_there))
-    host_does logs =
+    host_does logs ordered =
         taken_is t hosted n w there p x (logged_at x p r call_made.view) call_made call_there i h here below
-        (exchanges_log p x (with_logged (log_in x p) r) call_made.view long_there (logged_some (log_in x p) r))
+        (exchanges_log p x (with_logged (log_in x p) r) call_made.view long_there (logged_some (log_in x p) r) (ordered_logged (log_in x p) r ordered))
         (ap (λ (k : MachineOutcome). on_log k call_there.log) call_same)
         (λ at. ap log_said (get_or-set_same x.logs p (with_logged (log_in x p) r) None long_there) ∙ (logs ∙ ap (λ (o : MachineOutcome). o.log) call_same))
         (λ ne. absurd (ne refl))
@@ -207,18 +191,22 @@ module _ (t : TopologyView) (hosted : List ℕ) (n : NodeView) (w : World) (i : 
       let call : ℕ → ℕ → View → Log → MachineOutcome = λ b now v l. publish (seen net v) p b now number e v l in
       subst (λ (u : Transition). Does t hosted (taken_up n (host_of t p) (logged_at x p logs o.view) o.lines o.frames) u (offers_since w u)) (sym (publish_is net w p number e))
       (host_does p x here below call logs
-      (said_after (seen net (view_in x p)) p x.number n.now number e (view_in x p) (log_in x p) (log_there p x here below call logs)))
+      (said_after (seen net (view_in x p)) p x.number n.now number e (view_in x p) (log_in x p) (log_there p x here below call logs))
+      (λ l h. subst (λ (s : Option LogView). IsOrdered (appended_if (event_of (published (log_said s) number e n.now) number e) l).state) (sym h)
+      (ordered_publish l ((i.shaped (host_of t p) x here).ordered p l h) number e n.now)))
 
-  join_does : (s p : ℕ) (x : BrokerView) → broker_in n (host_of t p) ≡ Some x → p < length t.publishers
+  join_does : (s p : ℕ) (x : BrokerView) → broker_in n (host_of t p) ≡ Some x → p < length t.publishers → s < 2 ^ 16
       → Does t hosted (done_at t n (host_of t p) x (joins s p)) (join_now net w s p) (offers_since w (join_now net w s p))
   unfolding done_at
-  join_does s p x here below =
+  join_does s p x here below small =
       let o : MachineOutcome = join_at t x p s n.now in
       let logs : Option Record = join_logs_at x p s n.now in
       let call : ℕ → ℕ → View → Log → MachineOutcome = λ b now v l. join_with net p b now s v l in
       subst (λ (u : Transition). Does t hosted (taken_up n (host_of t p) (logged_at x p logs o.view) o.lines o.frames) u (offers_since w u)) (sym (join_is net w s p))
       (host_does p x here below call logs
-      (said_joined net p x.number s n.now (view_in x p) (log_in x p) (log_there p x here below call logs)))
+      (said_joined net p x.number n.now s (view_in x p) (log_in x p) (log_there p x here below call logs))
+      (λ l h. subst (λ (k : Option LogView). IsOrdered (appended_if (join_of (joined_at (log_said k) s n.now) s) l).state) (sym h)
+      (ordered_join l ((i.shaped (host_of t p) x here).ordered p l h) s n.now small)))
 
   -- A wake
 
@@ -268,18 +256,24 @@ module _ (t : TopologyView) (hosted : List ℕ) (n : NodeView) (w : World) (i : 
         go (inr ne) = ap (on_log (wake_at t x p n.now)) (wake_passed ne) ∙ wake_elsewhere ne
 
     abbrev log_woken : Option LogView
-    log_woken = with_logged (with_logged (log_in x p) (mark_logs_at t x p n.now)) (cut_logs_at t x p n.now)
+    log_woken = with_cut_if (with_logged (log_in x p) (mark_logs_at t x p n.now)) (cut_at t x p n.now) t.settings.reclaim
 
     woken_some : is_some log_woken ≡ is_some (log_in x p)
     woken_some =
-        logged_some (with_logged (log_in x p) (mark_logs_at t x p n.now)) (cut_logs_at t x p n.now)
+        cut_some (with_logged (log_in x p) (mark_logs_at t x p n.now)) (cut_at t x p n.now) t.settings.reclaim
         ∙ logged_some (log_in x p) (mark_logs_at t x p n.now)
+
+    woken_ordered : (k : LogView) → log_woken ≡ Some k → IsOrdered k.state
+    woken_ordered =
+        ordered_cut_if (with_logged (log_in x p) (mark_logs_at t x p n.now)) (cut_at t x p n.now) t.settings.reclaim
+        (ordered_logged (log_in x p) (mark_logs_at t x p n.now) (λ l h. subst (λ (s : Option LogView). IsOrdered (appended_if (mark_of (quieted (log_said s) n.now t.settings.quiet)) l).state) (sym h)
+        (ordered_mark l (shape_here.ordered p l h) n.now t.settings.quiet)))
 
     -- the log is that of the outcome
     wake_logged : host_of t p ≡ b → machine_log (after_wake t x p n.now) p ≡ wakes_here.log
     wake_logged at =
         ap log_said (get_or-set_same x.logs p log_woken None long_here)
-        ∙ (said_woken t x p n.now (eq-eqb (host_of t p) x.number (at ∙ sym shape_here.number)) (shape_here.hosted p below ∙ eq-eqb (host_of t p) b at)
+        ∙ (said_woken t x p n.now (eq-eqb (host_of t p) x.number (at ∙ sym shape_here.number)) (shape_here.hosted p below ∙ eq-eqb (host_of t p) b at) (shape_here.ordered p)
         ∙ ap (λ (o : MachineOutcome). o.log) (wake_hosted at))
 
     wake_does : Does t hosted (done_at t n b x (wakes b p)) (wake_for net w b p) (offers_since w (wake_for net w b p))
@@ -288,7 +282,7 @@ module _ (t : TopologyView) (hosted : List ℕ) (n : NodeView) (w : World) (i : 
         let o : MachineOutcome = wake_at t x p n.now in
         let y : BrokerView = after_wake t x p n.now in
         subst (λ (u : Transition). Does t hosted (taken_up n b y o.lines o.frames) u (offers_since w u)) (sym (wake_is net w b p))
-        (taken_is t hosted n w b p x y o wakes_here i h here below (exchanges_log p x log_woken o.view long_here woken_some) wake_same wake_logged wake_passed)
+        (taken_is t hosted n w b p x y o wakes_here i h here below (exchanges_log p x log_woken o.view long_here woken_some woken_ordered) wake_same wake_logged wake_passed)
 
   -- A datagram
 
@@ -346,7 +340,7 @@ module _ (t : TopologyView) (hosted : List ℕ) (n : NodeView) (w : World) (i : 
       taken_does =
           subst (λ (u : Transition). Does t hosted (done_with (Ok f) (taken answers_here)) u (offers_since w u)) (sym deliver_here)
           (taken_is t hosted n w b p x (with_view x p answers_here.view) answers_here takes_here i h here below
-          (exchanges_view p x answers_here.view) (ap (on_log answers_here) receive_passed ∙ receive_same)
+          (exchanges_view p x answers_here.view (shape_at.ordered p)) (ap (on_log answers_here) receive_passed ∙ receive_same)
           (λ at. sym (i.logs p x (ap (λ (k : ℕ). broker_in n k) at ∙ here) below) ∙ sym receive_passed) (λ ne. receive_passed))
 
       -- by what is kept
@@ -438,9 +432,9 @@ module _ (t : TopologyView) (hosted : List ℕ) (n : NodeView) (w : World) (i : 
       subst (λ (d : Done). Does t hosted d (publish_now net w y.0 y.1.0 y.1.1) (offers_since w (publish_now net w y.0 y.1.0 y.1.1))) (sym (call_at (host_of t y.0) x.0 (publishes y) x.1))
       (publish_does y.0 y.1.0 y.1.1 x.0 x.1 k.0)
   call_does passes rest (joins s p) k =
-      let x = broker_here hosted n (host_of t p) h k.1 in
+      let x = broker_here hosted n (host_of t p) h k.1.0 in
       subst (λ (d : Done). Does t hosted d (join_now net w s p) (offers_since w (join_now net w s p))) (sym (call_at (host_of t p) x.0 (joins s p) x.1))
-      (join_does s p x.0 x.1 k.0)
+      (join_does s p x.0 x.1 k.0 k.1.1)
   call_does passes rest (wakes b p) k =
       let x = broker_here hosted n b h k.0 in
       subst (λ (d : Done). Does t hosted d (wake_for net w b p) (offers_since w (wake_for net w b p))) (sym (call_at b x.0 (wakes b p) x.1))
@@ -448,10 +442,10 @@ module _ (t : TopologyView) (hosted : List ℕ) (n : NodeView) (w : World) (i : 
 
   -- What is shown
 
-  hosted_log : (p : ℕ) → p < length t.publishers → is_hosted net hosted p ≡ true → log_made (records_in t n p) ≡ log_of w p
+  pub hosted_log : (p : ℕ) → p < length t.publishers → is_hosted net hosted p ≡ true → log_here t n p ≡ log_of w p
   hosted_log p j e =
       let x = broker_here hosted n (host_of t p) h e in
-      ap (λ (s : Option BrokerView). log_made (records_at s p)) x.1 ∙ (said_by (log_in x.0 p) ∙ sym (i.logs p x.0 x.1 j))
+      ap (λ (s : Option BrokerView). log_at s p) x.1 ∙ sym (i.logs p x.0 x.1 j)
 
   abbrev log_lines : ℕ → Log → Bool → List Report
   log_lines p l q = if q then log_shown p l ∷ [] else []
@@ -459,7 +453,7 @@ module _ (t : TopologyView) (hosted : List ℕ) (n : NodeView) (w : World) (i : 
   log_line_is : (p : ℕ) → p < length t.publishers → log_shown_in t hosted n p ≡ log_lines p (log_of w p) (is_hosted net hosted p)
   log_line_is p j = go (is_hosted net hosted p) refl
     where
-      go : (q : Bool) → is_hosted net hosted p ≡ q → log_lines p (log_made (records_in t n p)) q ≡ log_lines p (log_of w p) q
+      go : (q : Bool) → is_hosted net hosted p ≡ q → log_lines p (log_here t n p) q ≡ log_lines p (log_of w p) q
       go true e = ap (λ (l : Log). log_shown p l ∷ []) (hosted_log p j e)
       go false e = refl
 
@@ -544,7 +538,7 @@ pub record Goes (t : TopologyView) (hosted : List ℕ) (n : NodeView) (w : World
   pub hosts : Hosts hosted (done t hosted n a).node
 
 -- one act
-moved_by : (t : TopologyView) (hosted : List ℕ) (n : NodeView) (w : World) (a : Act) → PassesLog → PassesRest → IsNode t n w → Hosts hosted n → IsActOf t hosted a
+pub moved_by : (t : TopologyView) (hosted : List ℕ) (n : NodeView) (w : World) (a : Act) → PassesLog → PassesRest → IsNode t n w → Hosts hosted n → IsActOf t hosted a
     → Goes t hosted n w a
 unfolding done act entries
 moved_by t hosted n w (calls c) passes rest i h k =

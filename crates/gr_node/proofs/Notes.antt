@@ -1,6 +1,6 @@
 -- Notes at a hosted broker: what one submits, with which line it is dropped, and the number of the last event in a log
-use Rattle.std.proofs.Common.{◌≡◌, ◌≢◌, ℕ, suc, ◌+◌, ◌≤◌, ◌<◌, ◌&&◌, ◌==◌, Bool, true, false, List, [], ◌∷◌, ◌++◌, length, get_or, Option, Some, None, Result, Ok, OnOk, refl, sym, ap, ◌∙◌, subst, arith}
-use Rattle.std.specs.Prelude.{nat_eq, nat_lt, nat_le, IsSome, is_some, if◌then◌else◌}
+use Rattle.std.proofs.Common.{◌≡◌, ◌≢◌, ℕ, suc, ◌+◌, ◌-◌, ◌≤◌, ◌<◌, ◌&&◌, Bool, true, false, List, [], ◌∷◌, ◌++◌, length, get_or, Option, Some, None, Result, Ok, OnOk, refl, sym, ap, ◌∙◌, subst, arith}
+use Rattle.std.specs.Prelude.{nat_eq, nat_lt, IsSome, is_some, if◌then◌else◌}
 use Rattle.std.proofs.lemmas.Bool.{and_parts, cond-true, cond-false, eq-eqb, ne_eqb, eqb-true, ltb-true, lt-ltb, le-ltb}
 use Rattle.std.proofs.lemmas.List.{get_or_read}
 use Rattle.gr_event.specs.declared.event.Event.{Event}
@@ -17,23 +17,20 @@ use Rattle.gr_note.specs.Nodes.{client_node}
 use Rattle.gr_out.specs.declared.fault.RunFault.{RunFault}
 use Rattle.gr_out.specs.Entry.{Entry}
 use Rattle.gr_out.specs.Entry as out
-use Rattle.gr_publog.specs.declared.record.Record.{Record}
-use Rattle.gr_publog.specs.declared.record.Record.TheVariants as entry
-use Rattle.gr_publog.specs.declared.record.State.{State}
-use Rattle.gr_publog.specs.State.{Standing, first_standing, stands_after, max_tick, state_from, state_of, may_settle, may_enter, Follow}
-use Rattle.gr_pubend.specs.Log.{Log, log_of}
-use Rattle.gr_pubend.proofs.Knowing.{stays_of}
+use Rattle.gr_publog.specs.declared.record.Entry.{Entry as LogEntry}
+use Rattle.gr_publog.specs.State.{LogState, IsState, EventsRise, EventsUpto, max_tick}
+use Rattle.gr_pubend.specs.Log.{Log}
 use Rattle.gr_topo.specs.Topology.{TopologyView, host_of, client_of}
 use Rattle.gr_model.specs.declared.report.Report.TheVariants as line
 use Rattle.gr_model.specs.Net.{Net}
 use Rattle.gr_model.specs.NetOf.{net_of}
 use Rattle.gr_model.specs.Text.{IsNamed}
 use Rattle.gr_model.specs.Arrivals.{Publish, takes_notes, submitted_in}
-use Rattle.gr_broker.specs.Seen.{BrokerView, log_in, machine_log}
-use Rattle.gr_node.specs.Seen.{NodeView, broker_in, records_at, records_in}
+use Rattle.gr_broker.specs.Seen.{BrokerView, machine_log}
+use Rattle.gr_node.specs.Seen.{NodeView, broker_in, log_at, log_here}
 use Rattle.gr_node.specs.Of.{NodeFits}
 use Rattle.gr_node.specs.Plan.{gets, publishes, calls, answers, drops, submit_acts, note_acts, datagram_acts, reply_to, reply_entry}
-use Rattle.gr_node.proofs.Taken.{some_is, found_in, broker_within, said_by}
+use Rattle.gr_node.proofs.Taken.{some_is, found_in, broker_within}
 
 -- What a note submits
 
@@ -111,36 +108,14 @@ here_at n b c e here = ap (λ k. is_some (broker_in n k)) e ∙ here
 
 -- The last event
 
--- an event's number is at most its tick
-last_from : (s : Standing) (rs : List Record) → s.state.last ≤ s.state.settled → Follow s rs → (let e : State = state_from s.state rs in e.last ≤ e.settled)
-last_from s [] h f = h
-last_from s (entry.Event tick number e ∷ rs) h f =
-    let both = and_parts (may_settle s.state tick) (number == s.state.last + 1) f.0 in
-    let settles = and_parts (nat_lt s.state.settled tick) (nat_le tick max_tick) both.0 in
-    let later : s.state.settled < tick = ltb-true s.state.settled tick settles.0 in
-    let next : number ≡ s.state.last + 1 = eqb-true number (s.state.last + 1) both.1 in
-    last_from (stands_after s (entry.Event tick number e)) rs (omega (arith, h, later, next)) f.2
-last_from s (entry.Mark tick ∷ rs) h f =
-    let settles = and_parts (nat_lt s.state.settled tick) (nat_le tick max_tick) f.0 in
-    let later : s.state.settled < tick = ltb-true s.state.settled tick settles.0 in
-    last_from (stands_after s (entry.Mark tick)) rs (omega (arith, h, later)) f.2
-last_from s (entry.Cut tick ∷ rs) h f = last_from (stands_after s (entry.Cut tick)) rs h f.2
-last_from s (entry.Join tick x ∷ rs) h f =
-    let both = and_parts (may_settle s.state tick) (may_enter s x) f.0 in
-    let settles = and_parts (nat_lt s.state.settled tick) (nat_le tick max_tick) both.0 in
-    let later : s.state.settled < tick = ltb-true s.state.settled tick settles.0 in
-    last_from (stands_after s (entry.Join tick x)) rs (omega (arith, h, later)) f.2
+-- there are no more events than ticks from a cut up to what is settled
+rise_long : (tick n top : ℕ) (es : List LogEntry) → tick ≤ top → EventsRise tick n es → EventsUpto top es → tick + length es ≤ top
+rise_long tick n top [] l r u = omega (arith, l)
+rise_long tick n top (e ∷ es) l r u = omega (arith, r.0, rise_long e.tick e.number top es u.0 r.1.1 u.1)
 
--- so there are no more than there are ticks
-pub last_upto : (late : List ℕ) (rs : List Record) → Follow (first_standing late) rs → (let s : State = state_of rs in s.last ≤ max_tick)
-last_upto late rs f =
-    let stays = stays_of late rs f in
-    let within = last_from (first_standing late) rs (omega arith) f in
-    omega (arith, within, stays.settled, stays.upto)
-
--- a log's last number is that of its records
-pub last_is : (late : List ℕ) (rs : List Record) → Follow (first_standing late) rs → (let s : State = state_of rs in s.last) ≡ (let l : Log = log_of rs in l.last)
-last_is late rs f = sym (stays_of late rs f).last
+-- so the last number is at most the last tick
+pub last_upto : (s : LogState) → IsState s → s.last ≤ max_tick
+last_upto s i = omega (arith, i.low, i.settled, rise_long s.cut (s.last - length s.events) s.settled s.events i.cut i.rise i.upto)
 
 -- Where a place was read
 
@@ -149,13 +124,12 @@ broker_read t n b o f h read = sym (get_or_read n.brokers b o (omega (arith, h, 
 
 -- the log is that of the broker there
 pub last_here : (t : TopologyView) (n : NodeView) (p : ℕ) (x : BrokerView) → broker_in n (host_of t p) ≡ Some x
-    → (let m : Log = machine_log x p in m.last) ≡ (let l : Log = log_of (records_in t n p) in l.last)
-last_here t n p x e =
-    sym (ap (λ (s : Option BrokerView). let l : Log = log_of (records_at s p) in l.last) e ∙ ap (λ (l : Log). l.last) (said_by (log_in x p)))
+    → (let m : Log = machine_log x p in m.last) ≡ (let l : Log = log_here t n p in l.last)
+last_here t n p x e = sym (ap (λ (s : Option BrokerView). let l : Log = log_at s p in l.last) e)
 
 -- and where there is none nothing was logged
-pub last_nowhere : (t : TopologyView) (n : NodeView) (p : ℕ) → broker_in n (host_of t p) ≡ None → 0 ≡ (let l : Log = log_of (records_in t n p) in l.last)
-last_nowhere t n p e = sym (ap (λ (s : Option BrokerView). let l : Log = log_of (records_at s p) in l.last) e)
+pub last_nowhere : (t : TopologyView) (n : NodeView) (p : ℕ) → broker_in n (host_of t p) ≡ None → 0 ≡ (let l : Log = log_here t n p in l.last)
+last_nowhere t n p e = sym (ap (λ (s : Option BrokerView). let l : Log = log_at s p in l.last) e)
 
 -- Whose notes are taken
 

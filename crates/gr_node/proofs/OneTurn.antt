@@ -6,6 +6,7 @@ use Rattle.gr_out.specs.Bytes.{with_more}
 use Rattle.gr_out.specs.Entry.{Entry}
 use Rattle.gr_out.specs.Entry as entry
 use Rattle.gr_out.specs.Journal.{is_among}
+use Rattle.gr_out.specs.Lane.{Lane}
 use Rattle.gr_out.specs.Page.{TakesFront}
 use Rattle.gr_out.proofs.Fronts.{front-nothing}
 use Rattle.gr_topo.specs.Topology.{TopologyView}
@@ -16,9 +17,11 @@ use Rattle.gr_model.specs.Arrivals.{Arrival, datagram, quiet, Request, requests_
 use Rattle.gr_model_theorems.specs.Served.{IsOfBytes}
 use Rattle.gr_node.specs.Seen.{NodeView}
 use Rattle.gr_node.specs.Plan.{Act, arrives, calls, settles, closes, datagram_acts, led_to, quiet_calls, acts_from, closing, entry_of}
-use Rattle.gr_node.specs.Done.{at_arrival}
+use Rattle.gr_node.specs.Done.{done, all_done, at_arrival}
+use Rattle.gr_node.specs.Lasting.{ActsKeep}
 use Rattle.gr_node.specs.Went.{Outside, outside, Went}
 use Rattle.gr_node.specs.Turns.{left_behind, Turned}
+use Rattle.gr_node.proofs.Lasting.{acts_none, acts_same, acts_front, acts_then}
 use Rattle.gr_node.proofs.Wending.{MadeAll, made_flushed, made_arrives, made_closes, all_made, went_ok, went_on, went_as, went_front, went_failed, went_unwritten, begins_nothing}
 
 -- The page is written behind acts that were all made
@@ -53,6 +56,24 @@ went_here {T} t hosted tells b bytes moment now left n n' o o' r e clock w =
     (sym e)
     (subst (λ k. Went {T = T} t hosted tells (datagram_acts (net_of t) b bytes ++ settles ∷ []) (record { brokers = n.brokers; offers = n.offers; now = k; orders = n.orders }) n' o o' r) clock w)
 
+-- and what that does to the lanes
+pub kept_here : (t : TopologyView) (hosted : List ℕ) (b : ℕ) (bytes : List ℕ) (moment now : ℕ) (left : List Request) (n : NodeView) (lanes lanes' : ℕ → Lane) → is_among hosted b ≡ true → now ≡ min moment max_tick
+    → ActsKeep t hosted (record { brokers = n.brokers; offers = n.offers; now = now; orders = n.orders }) (datagram_acts (net_of t) b bytes) lanes lanes'
+    → ActsKeep t hosted (at_arrival hosted n (datagram b bytes moment)) (led_to (net_of t) hosted left (datagram b bytes moment)) lanes lanes'
+kept_here t hosted b bytes moment now left n lanes lanes' e clock k =
+    subst (λ (here : Bool). ActsKeep t hosted (if here then record { brokers = n.brokers; offers = n.offers; now = min moment max_tick; orders = n.orders } else n)
+    ((if here then datagram_acts (net_of t) b bytes else []) ++ (if here then settles ∷ [] else [])) lanes lanes')
+    (sym e)
+    (acts_front t hosted (record { brokers = n.brokers; offers = n.offers; now = min moment max_tick; orders = n.orders }) (datagram_acts (net_of t) b bytes) (settles ∷ []) lanes lanes'
+    (subst (λ j. ActsKeep t hosted (record { brokers = n.brokers; offers = n.offers; now = j; orders = n.orders }) (datagram_acts (net_of t) b bytes) lanes lanes') clock k))
+
+pub kept_quiet : (t : TopologyView) (hosted : List ℕ) (left : List Request) (moment now : ℕ) (n : NodeView) (lanes lanes' : ℕ → Lane) → now ≡ min moment max_tick
+    → ActsKeep t hosted (record { brokers = n.brokers; offers = n.offers; now = now; orders = n.orders }) (map calls (quiet_calls (net_of t) hosted left)) lanes lanes'
+    → ActsKeep t hosted (at_arrival hosted n (quiet moment)) (map calls (quiet_calls (net_of t) hosted left) ++ settles ∷ []) lanes lanes'
+kept_quiet t hosted left moment now n lanes lanes' clock k =
+    acts_front t hosted (record { brokers = n.brokers; offers = n.offers; now = min moment max_tick; orders = n.orders }) (map calls (quiet_calls (net_of t) hosted left)) (settles ∷ []) lanes lanes'
+    (subst (λ j. ActsKeep t hosted (record { brokers = n.brokers; offers = n.offers; now = j; orders = n.orders }) (map calls (quiet_calls (net_of t) hosted left)) lanes lanes') clock k)
+
 -- A quiet moment: the clock moves, and then come its acts, and what is ready in one order
 pub went_quiet : {T : Type 0} (t : TopologyView) (hosted : List ℕ) (tells : Type 0) (left : List Request) (moment now : ℕ) (n n' : NodeView) (o o' : Outside) (r : Result T RunFault) → now ≡ min moment max_tick
     → Went {T = T} t hosted tells (map calls (quiet_calls (net_of t) hosted left) ++ settles ∷ []) (record { brokers = n.brokers; offers = n.offers; now = now; orders = n.orders }) n' o o' r
@@ -79,18 +100,27 @@ came_on {T} t hosted tells left a n n' taken held before came o' r put w =
     (went_on t hosted tells (arrives a ∷ []) (led_to (net_of t) hosted left a) n (at_arrival hosted n a) n' (outside taken held before) (outside taken held came) o' r
     (made_arrives t hosted tells a n (at_arrival hosted n a) (outside taken held before) (outside taken held came) refl refl refl put) w)
 
+-- what the acts of an arrival do to the lanes
+came_keep : (t : TopologyView) (hosted : List ℕ) (left : List Request) (a : Arrival) (n : NodeView) (lanes lanes' : ℕ → Lane)
+    → ActsKeep t hosted (at_arrival hosted n a) (led_to (net_of t) hosted left a) lanes lanes' → ActsKeep t hosted n (acts_from (net_of t) hosted left (a ∷ []) ++ closing false) lanes lanes'
+unfolding all_done done
+came_keep t hosted left a n lanes lanes' k =
+    subst (λ acts. ActsKeep t hosted n acts lanes lanes') (acts_of_one t hosted left a)
+    (acts_then t hosted n (at_arrival hosted n a) (arrives a ∷ []) (led_to (net_of t) hosted left a) lanes lanes lanes' (acts_same t hosted n (arrives a ∷ []) lanes) refl k)
+
 -- what is left after one arrival
 left_one : (left : List Request) (a : Arrival) → left_behind left (a ∷ []) ≡ left_after left a
 unfolding left_behind
 left_one left a = refl
 
 -- A turn that took what came
-pub turned_on : (t : TopologyView) (hosted : List ℕ) (tells : Type 0) (steps : List Line) (next next' : ℕ) (a : Arrival) (n n' : NodeView) (taken : Option (List ℕ)) (held : List ℕ) (before came : List Entry) (o' : Outside) (x : Unit {0})
+pub turned_on : (t : TopologyView) (hosted : List ℕ) (tells keeps : Type 0) (lanes lanes' : ℕ → Lane) (steps : List Line) (next next' : ℕ) (a : Arrival) (n n' : NodeView) (taken : Option (List ℕ)) (held : List ℕ) (before came : List Entry) (o' : Outside) (x : Unit {0})
     → IsOfBytes a → (tells → came ≡ before ++ entry_of a ∷ [])
     → Went {T = Unit {0}} t hosted tells (led_to (net_of t) hosted (requests_of (net_of t) hosted (drop next steps)) a) (at_arrival hosted n a) n' (outside taken held came) o' (Ok x)
     → requests_of (net_of t) hosted (drop next' steps) ≡ left_after (requests_of (net_of t) hosted (drop next steps)) a
-    → Turned t hosted tells steps next next' n n' (outside taken held before) o' (Ok true)
-turned_on t hosted tells steps next next' a n n' taken held before came o' x bytes put w left =
+    → (keeps → ActsKeep t hosted (at_arrival hosted n a) (led_to (net_of t) hosted (requests_of (net_of t) hosted (drop next steps)) a) lanes lanes')
+    → Turned t hosted tells keeps steps next next' n n' (outside taken held before) o' lanes lanes' (Ok true)
+turned_on t hosted tells keeps lanes lanes' steps next next' a n n' taken held before came o' x bytes put w left kept =
     let all : List Act = acts_from (net_of t) hosted (requests_of (net_of t) hosted (drop next steps)) (a ∷ []) ++ closing false in
     record {
       came = a ∷ [];
@@ -100,15 +130,17 @@ turned_on t hosted tells steps next next' a n n' taken held before came o' x byt
       went = went_ok t hosted tells all n n' (outside taken held before) o' true
           (all_made t hosted tells all n n' (outside taken held before) o' x
           (came_on t hosted tells (requests_of (net_of t) hosted (drop next steps)) a n n' taken held before came o' (Ok x) put w));
+      kept = λ h. came_keep t hosted (requests_of (net_of t) hosted (drop next steps)) a n lanes lanes' (kept h);
       left = left ∙ sym (left_one (requests_of (net_of t) hosted (drop next steps)) a);
     }
 
 -- one that ended within what came
-pub turned_cut : (t : TopologyView) (hosted : List ℕ) (tells : Type 0) (steps : List Line) (next next' : ℕ) (a : Arrival) (n n' : NodeView) (taken : Option (List ℕ)) (held : List ℕ) (before came : List Entry) (o' : Outside) (e : RunFault)
+pub turned_cut : (t : TopologyView) (hosted : List ℕ) (tells keeps : Type 0) (lanes lanes' : ℕ → Lane) (steps : List Line) (next next' : ℕ) (a : Arrival) (n n' : NodeView) (taken : Option (List ℕ)) (held : List ℕ) (before came : List Entry) (o' : Outside) (e : RunFault)
     → IsOfBytes a → (tells → came ≡ before ++ entry_of a ∷ [])
     → Went {T = Unit {0}} t hosted tells (led_to (net_of t) hosted (requests_of (net_of t) hosted (drop next steps)) a) (at_arrival hosted n a) n' (outside taken held came) o' (Err e)
-    → Turned t hosted tells steps next next' n n' (outside taken held before) o' (Err e)
-turned_cut t hosted tells steps next next' a n n' taken held before came o' e bytes put w =
+    → (keeps → ActsKeep t hosted (at_arrival hosted n a) (led_to (net_of t) hosted (requests_of (net_of t) hosted (drop next steps)) a) lanes lanes')
+    → Turned t hosted tells keeps steps next next' n n' (outside taken held before) o' lanes lanes' (Err e)
+turned_cut t hosted tells keeps lanes lanes' steps next next' a n n' taken held before came o' e bytes put w kept =
     let all : List Act = acts_from (net_of t) hosted (requests_of (net_of t) hosted (drop next steps)) (a ∷ []) ++ closing false in
     record {
       came = a ∷ [];
@@ -117,6 +149,7 @@ turned_cut t hosted tells steps next next' a n n' taken held before came o' e by
       bytes = (bytes, tt);
       went = went_as {T = Unit {0}} {U = Bool} t hosted tells all n n' (outside taken held before) o' e
           (came_on t hosted tells (requests_of (net_of t) hosted (drop next steps)) a n n' taken held before came o' (Err e) put w);
+      kept = λ h. came_keep t hosted (requests_of (net_of t) hosted (drop next steps)) a n lanes lanes' (kept h);
       left = tt;
     }
 
@@ -126,10 +159,10 @@ unfolding acts_from
 acts_shut t hosted left shut = refl
 
 -- nothing comes any more
-pub turned_shut : (t : TopologyView) (hosted : List ℕ) (tells : Type 0) (steps : List Line) (next next' : ℕ) (n n' : NodeView) (taken : Option (List ℕ)) (held : List ℕ) (before after : List Entry) → n' ≡ n
-    → (tells → after ≡ before ++ entry.closed ∷ []) → next' ≡ next → Turned t hosted tells steps next next' n n' (outside taken held before) (outside taken held after) (Ok false)
+pub turned_shut : (t : TopologyView) (hosted : List ℕ) (tells keeps : Type 0) (lanes lanes' : ℕ → Lane) (steps : List Line) (next next' : ℕ) (n n' : NodeView) (taken : Option (List ℕ)) (held : List ℕ) (before after : List Entry) → n' ≡ n
+    → (tells → after ≡ before ++ entry.closed ∷ []) → next' ≡ next → ((k : ℕ) → lanes' k ≡ lanes k) → Turned t hosted tells keeps steps next next' n n' (outside taken held before) (outside taken held after) lanes lanes' (Ok false)
 unfolding left_behind
-turned_shut t hosted tells steps next next' n n' taken held before after e put same =
+turned_shut t hosted tells keeps lanes lanes' steps next next' n n' taken held before after e put same still =
     let left : List Request = requests_of (net_of t) hosted (drop next steps) in
     record {
       came = [];
@@ -139,13 +172,14 @@ turned_shut t hosted tells steps next next' n n' taken held before after e put s
       went = subst (λ acts. Went {T = Bool} t hosted tells acts n n' (outside taken held before) (outside taken held after) (Ok false)) (sym (acts_shut t hosted left true))
           (went_ok t hosted tells (closes ∷ []) n n' (outside taken held before) (outside taken held after) false
           (made_closes t hosted tells n n' (outside taken held before) (outside taken held after) e refl refl put));
+      kept = λ h. acts_none t hosted n (acts_from (net_of t) hosted left [] ++ closing true) lanes lanes' still;
       left = ap (λ k. requests_of (net_of t) hosted (drop k steps)) same;
     }
 
 -- the post failed
-pub turned_failed : (t : TopologyView) (hosted : List ℕ) (tells : Type 0) (steps : List Line) (next next' : ℕ) (n n' : NodeView) (taken : Option (List ℕ)) (held : List ℕ) (before after : List Entry) → n' ≡ n
-    → (tells → after ≡ before ++ entry.failed ∷ []) → Turned t hosted tells steps next next' n n' (outside taken held before) (outside taken held after) (Err run.Post)
-turned_failed t hosted tells steps next next' n n' taken held before after e put =
+pub turned_failed : (t : TopologyView) (hosted : List ℕ) (tells keeps : Type 0) (lanes lanes' : ℕ → Lane) (steps : List Line) (next next' : ℕ) (n n' : NodeView) (taken : Option (List ℕ)) (held : List ℕ) (before after : List Entry) → n' ≡ n
+    → (tells → after ≡ before ++ entry.failed ∷ []) → ((k : ℕ) → lanes' k ≡ lanes k) → Turned t hosted tells keeps steps next next' n n' (outside taken held before) (outside taken held after) lanes lanes' (Err run.Post)
+turned_failed t hosted tells keeps lanes lanes' steps next next' n n' taken held before after e put still =
     let left : List Request = requests_of (net_of t) hosted (drop next steps) in
     record {
       came = [];
@@ -154,13 +188,14 @@ turned_failed t hosted tells steps next next' n n' taken held before after e put
       bytes = tt;
       went = subst (λ acts. Went {T = Bool} t hosted tells acts n n' (outside taken held before) (outside taken held after) (Err run.Post)) (sym (acts_shut t hosted left false))
           (went_failed t hosted tells n n' (outside taken held before) (outside taken held after) e refl refl put);
+      kept = λ h. acts_none t hosted n (acts_from (net_of t) hosted left [] ++ closing false) lanes lanes' still;
       left = tt;
     }
 
 -- or had no memory
-pub turned_refused : (t : TopologyView) (hosted : List ℕ) (tells : Type 0) (steps : List Line) (next next' : ℕ) (n n' : NodeView) (taken : Option (List ℕ)) (held : List ℕ) (before after : List Entry)
-    → (tells → after ≡ before ++ []) → Turned t hosted tells steps next next' n n' (outside taken held before) (outside taken held after) (Err run.Memory)
-turned_refused t hosted tells steps next next' n n' taken held before after put =
+pub turned_refused : (t : TopologyView) (hosted : List ℕ) (tells keeps : Type 0) (lanes lanes' : ℕ → Lane) (steps : List Line) (next next' : ℕ) (n n' : NodeView) (taken : Option (List ℕ)) (held : List ℕ) (before after : List Entry)
+    → (tells → after ≡ before ++ []) → ((k : ℕ) → lanes' k ≡ lanes k) → Turned t hosted tells keeps steps next next' n n' (outside taken held before) (outside taken held after) lanes lanes' (Err run.Memory)
+turned_refused t hosted tells keeps lanes lanes' steps next next' n n' taken held before after put still =
     let left : List Request = requests_of (net_of t) hosted (drop next steps) in
     record {
       came = [];
@@ -169,5 +204,6 @@ turned_refused t hosted tells steps next next' n n' taken held before after put 
       bytes = tt;
       went = went_front t hosted tells (acts_from (net_of t) hosted left [] ++ closing false) n n' (outside taken held before) (outside taken held after) run.Memory tt
           (front-nothing taken taken _ refl) (λ h. begins_nothing before after _ (put h ∙ append-nil before));
+      kept = λ h. acts_none t hosted n (acts_from (net_of t) hosted left [] ++ closing false) lanes lanes' still;
       left = tt;
     }

@@ -4,15 +4,16 @@ use Rattle.std.proofs.Common.{◌≡◌, ◌≢◌, inl, inr, ℕ, zero, suc, �
 use Rattle.std.specs.Prelude.{is_some, nat_eq, if◌then◌else◌}
 use Rattle.std.specs.List.{AllByRecursion, list_any}
 use Rattle.std.proofs.lemmas.Bool.{cases_eq, eq-eqb, eqb-true, ne_eqb, both_ways, or_left, or_right, or_parts, false≢true}
-use Rattle.std.proofs.lemmas.List.{get_or-set_same, get_or-set_other, get_or-map, set-get_or}
+use Rattle.std.proofs.lemmas.List.{get_or-set_same, get_or-set_other, set-get_or}
 use Rattle.gr_frame.specs.declared.Frame.{Frame}
 use Rattle.gr_out.specs.Entry.{Entry}
 use Rattle.gr_out.specs.Journal.{is_among}
 use Rattle.gr_know.specs.Values.{Known}
-use Rattle.gr_publog.specs.declared.record.Record.{Record}
-use Rattle.gr_publog.specs.State.{first_standing, Follow}
-use Rattle.gr_publog.specs.Crash.{LogView}
-use Rattle.gr_pubend.specs.Log.{log_of as log_made}
+use Rattle.gr_event.specs.declared.limits.TheConstants.{MAX_JOINS}
+use Rattle.gr_publog.specs.declared.steps.Aside.TheVariants.{Short}
+use Rattle.gr_publog.specs.State.{empty_state, IsState}
+use Rattle.gr_publog.specs.Views.{LogView}
+use Rattle.gr_publog.proofs.Kept.{begins}
 use Rattle.gr_topo.specs.Topology.{TopologyView, host_of}
 use Rattle.gr_model.specs.declared.report.Report.{Report}
 use Rattle.gr_model.specs.Net.{Net, is_host, not_empty, numbers, numbers_from}
@@ -20,18 +21,19 @@ use Rattle.gr_model.specs.NetOf.{net_of, IsRising}
 use Rattle.gr_model.specs.Broker.{View, Log, Outcome as MachineOutcome, empty_log, log_know, learn, seen, started}
 use Rattle.gr_model.specs.World.{World, Transition, blank_view, view_of, log_of, sent_lines, absorbed, unchanged, followed_by, in_turn}
 use Rattle.gr_model.specs.Opening.{reopened_log, over_logs, reopened_line, opened_for, opened_for_by}
-use Rattle.gr_model_theorems.specs.Lanes.{AllFollow, whole_logs}
+use Rattle.gr_model_theorems.specs.Forgets.{WasOpened, AllOpened}
 use Rattle.gr_model_calls.proofs.runs.Schedules.{get_numbers, length_numbers}
 use Rattle.gr_model_theorems.proofs.server.Opening.{over_view}
-use Rattle.gr_broker.specs.Seen.{BrokerView, view_in, log_in, machine_log}
+use Rattle.gr_broker.specs.Seen.{BrokerView, view_in, log_in, log_said, machine_log}
 use Rattle.gr_broker.specs.Opened.{opened_at}
 use Rattle.gr_broker.proofs.Fresh.{opened_silent}
 use Rattle.gr_report.proofs.Along.{flat_map_same}
-use Rattle.gr_node.specs.Seen.{NodeView, broker_in, records_said, records_at, records_in}
+use Rattle.gr_node.specs.Seen.{NodeView, broker_in, log_at, log_here}
 use Rattle.gr_node.specs.Of.{AreHosted}
 use Rattle.gr_node.specs.Plan.{Act, binds, starts, settles, bound_entry, act, entries, all_entries}
 use Rattle.gr_node.specs.Starting.{HasStarted, lines_of_start, start_lines}
-use Rattle.gr_node.proofs.Taken.{IsShaped, IsNode, some_is, said_by}
+use Rattle.gr_node.proofs.Ordered.{state_ordered}
+use Rattle.gr_node.proofs.Taken.{IsShaped, IsNode, some_is}
 
 -- Acts in two parts
 
@@ -434,18 +436,12 @@ starts_turn net logs hosted (b ∷ bs) w r f =
 
 -- The node after its starts
 
--- what was found on the lanes of the brokers that have started
-abbrev pub records_found : TopologyView → NodeView → List (List Record)
-records_found t n = map (records_in t n) (numbers (length t.publishers))
+-- the logs of the brokers that have started
+abbrev pub logs_found : TopologyView → NodeView → List Log
+logs_found t n = map (log_here t n) (numbers (length t.publishers))
 
-pub records_read : (t : TopologyView) (n : NodeView) (p : ℕ) → p < length t.publishers → get_or (records_found t n) p [] ≡ records_in t n p
-records_read t n p j = get_numbers (records_in t n) 0 (length t.publishers) p [] j ∙ ap (records_in t n) (omega arith)
-
--- the log of a publisher is that of the records found
-pub log_found : (t : TopologyView) (n : NodeView) (p : ℕ) → p < length t.publishers → reopened_log (whole_logs (records_found t n)) p ≡ log_made (records_in t n p)
-log_found t n p j =
-    get_or-map log_made (records_found t n) p [] empty_log (omega (arith, j, length_numbers (records_in t n) 0 (length t.publishers)))
-    ∙ ap log_made (records_read t n p j)
+pub logs_read : (t : TopologyView) (n : NodeView) (p : ℕ) → p < length t.publishers → get_or (logs_found t n) p empty_log ≡ log_here t n p
+logs_read t n p j = get_numbers (log_here t n) 0 (length t.publishers) p empty_log j ∙ ap (log_here t n) (omega arith)
 
 -- a world in which nothing has happened, with its lists as long as the topology says
 record IsBegun (t : TopologyView) (w : World) : Type 0 where
@@ -461,7 +457,7 @@ module _ (t : TopologyView) (bs : List ℕ) (n : NodeView) (each : AllByRecursio
   net = net_of t
 
   abbrev logs : List Log
-  logs = whole_logs (records_found t n)
+  logs = logs_found t n
 
   started_at : (b : ℕ) (x : BrokerView) → broker_in n b ≡ Some x → HasStarted t n b
   started_at b x e = all_at (HasStarted t n) bs b each (sym (are b) ∙ ap (λ (s : Option BrokerView). is_some s) e)
@@ -469,34 +465,38 @@ module _ (t : TopologyView) (bs : List ℕ) (n : NodeView) (each : AllByRecursio
   same_broker : (b : ℕ) (x : BrokerView) (e : broker_in n b ≡ Some x) → (started_at b x e).broker ≡ x
   same_broker b x e = some_is (sym (started_at b x e).here ∙ e)
 
-  -- Each log that is here may follow
-  follow_said : (s : Option LogView) → ((l : LogView) → s ≡ Some l → Follow (first_standing t.late) l.records) → Follow (first_standing t.late) (records_said s)
-  follow_said None h = tt
-  follow_said (Some l) h = h l refl
+  -- Each log was opened
+  said_opened : length t.late ≤ MAX_JOINS → (s : Option LogView) → ((l : LogView) → s ≡ Some l → IsState l.state × (l.state.late ≡ t.late)) → WasOpened t.late (log_said s)
+  said_opened few None h = record {
+    view = record { lane = 0; state = empty_state t.late; broken = false; second = false; generation = 1; size = 33; aside = Short };
+    state = begins t.late few;
+    late = refl;
+    says = refl;
+  }
+  said_opened few (Some l) h = record { view = l; state = (h l refl).0; late = (h l refl).1; says = refl }
 
-  follow_at : (s : Option BrokerView) (p : ℕ) → ((x : BrokerView) → s ≡ Some x → Follow (first_standing t.late) (records_said (log_in x p))) → Follow (first_standing t.late) (records_at s p)
-  follow_at None p h = tt
-  follow_at (Some x) p h = h x refl
+  opened_at_host : length t.late ≤ MAX_JOINS → (s : Option BrokerView) (p : ℕ) → ((x : BrokerView) → s ≡ Some x → WasOpened t.late (machine_log x p)) → WasOpened t.late (log_at s p)
+  opened_at_host few None p h = said_opened few None (λ l e. absurd (cc e))
+  opened_at_host few (Some x) p h = h x refl
 
-  follow_in : (p : ℕ) → Follow (first_standing t.late) (records_in t n p)
-  follow_in p = follow_at (broker_in n (host_of t p)) p (λ x e.
+  opened_in : length t.late ≤ MAX_JOINS → (p : ℕ) → WasOpened t.late (log_here t n p)
+  opened_in few p = opened_at_host few (broker_in n (host_of t p)) p (λ x e.
       let s = started_at (host_of t p) x e in
-      subst (λ (z : BrokerView). Follow (first_standing t.late) (records_said (log_in z p))) (same_broker (host_of t p) x e)
-      (follow_said (log_in s.broker p) (λ l h. subst (λ (late : List ℕ). Follow (first_standing late) l.records) (s.fits.late p l h) (s.follow p l h))))
+      subst (λ (z : BrokerView). WasOpened t.late (machine_log z p)) (same_broker (host_of t p) x e)
+      (said_opened few (log_in s.broker p) (λ l h. (s.states p l h, s.fits.late p l h))))
 
-  pub records_follow : AllFollow t.late (records_found t n)
-  records_follow = go 0 (length t.publishers)
+  pub logs_opened : length t.late ≤ MAX_JOINS → AllOpened t.late (logs_found t n)
+  logs_opened few = go 0 (length t.publishers)
     where
-      go : (a k : ℕ) → AllFollow t.late (map (records_in t n) (numbers_from a k))
+      go : (a k : ℕ) → AllOpened t.late (map (log_here t n) (numbers_from a k))
       go a zero = tt
-      go a (suc k) = (follow_in a, go (suc a) k)
+      go a (suc k) = (opened_in few a, go (suc a) k)
 
   -- What a publisher's start leaves and tells over the broker's own log
 
   log_at_host : (b p : ℕ) (x : BrokerView) → broker_in n b ≡ Some x → p < length t.publishers → host_of t p ≡ b → reopened_log logs p ≡ machine_log x p
   log_at_host b p x e j at =
-      log_found t n p j
-      ∙ (ap (λ (s : Option BrokerView). log_made (records_at s p)) (ap (λ (c : ℕ). broker_in n c) at ∙ e) ∙ said_by (log_in x p))
+      logs_read t n p j ∙ ap (λ (s : Option BrokerView). log_at s p) (ap (λ (c : ℕ). broker_in n c) at ∙ e)
 
   view_same : (b p : ℕ) (x : BrokerView) → broker_in n b ≡ Some x → p < length t.publishers → view_opened net logs b p ≡ (opened_at net p b (machine_log x p)).view
   view_same b p x e j = go (is_host net p b) refl
@@ -581,6 +581,7 @@ module _ (t : TopologyView) (bs : List ℕ) (n : NodeView) (each : AllByRecursio
           views = s.fits.views;
           logs = s.fits.logs;
           hosted = λ p j. s.fits.hosted p j ∙ ap (λ (c : ℕ). is_host net p c) s.number;
+          ordered = λ p l h. state_ordered l.state (s.states p l h);
         })
 
     node_now : IsNode t n machine.world
@@ -603,7 +604,7 @@ module _ (t : TopologyView) (bs : List ℕ) (n : NodeView) (each : AllByRecursio
 pub opened_is : (t : TopologyView) (hosted bs rest : List ℕ) (n : NodeView) → bs ++ rest ≡ hosted → AreHosted t hosted
     → AllByRecursion (HasStarted t n) bs → ((b : ℕ) → is_some (broker_in n b) ≡ is_among bs b) → n.offers ≡ 0 → n.now ≡ 0
     → length n.brokers ≡ length t.brokers
-    → let logs : List Log = whole_logs (map (records_in t n) (numbers (length t.publishers))) in
+    → let logs : List Log = map (log_here t n) (numbers (length t.publishers)) in
     let u : Transition = in_turn (act (net_of t) hosted) (map starts bs) (over_logs (net_of t) logs) in
     (u.lines ≡ flat_map (start_lines t n) bs) × IsNode t n u.world
 opened_is t hosted bs rest n parts hosts each are offers now count =

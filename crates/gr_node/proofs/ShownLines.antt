@@ -3,7 +3,6 @@
 use Rattle.std.proofs.Common.{◌≡◌, ℕ, ◌<◌, Bool, true, false, List, [], ◌∷◌, ◌++◌, length, flat_map, get_or, Option, Some, None, sym, ap, ◌∙◌, arith}
 use Rattle.std.specs.Prelude.{if◌then◌else◌}
 use Rattle.std.proofs.lemmas.List.{get_or_read}
-use Rattle.gr_pubend.specs.Log.{log_of}
 use Rattle.gr_topo.specs.Topology.{TopologyView}
 use Rattle.gr_model.specs.declared.report.Report.{Report}
 use Rattle.gr_model.specs.declared.report.Report.TheVariants as line
@@ -17,7 +16,7 @@ use Rattle.gr_broker.specs.Seen.{BrokerView, view_in}
 use Rattle.gr_report.specs.Named.{AllNamed}
 use Rattle.gr_report.proofs.Named.{each_of, all_of}
 use Rattle.gr_report.proofs.OpenedNamed.{each_flat}
-use Rattle.gr_node.specs.Seen.{NodeView, broker_in, records_in}
+use Rattle.gr_node.specs.Seen.{NodeView, broker_in, log_here}
 use Rattle.gr_node.specs.Of.{AreHosted, NodeFits}
 use Rattle.gr_node.specs.Done.{log_shown, log_shown_in, logs_shown, doubt_shown, doubts_by, doubts_shown, shown}
 
@@ -33,7 +32,7 @@ broker_found t n b o x f h read is = sym (get_or_read n.brokers b o (omega (arit
 log_named : (t : TopologyView) (hosted : List ℕ) (n : NodeView) (p : ℕ) → p < length t.publishers → Each (IsNamed t) (log_shown_in t hosted n p)
 log_named t hosted n p h = go (is_hosted (net_of t) hosted p)
   where
-    go : (b : Bool) → Each (IsNamed t) (if b then log_shown p (log_of (records_in t n p)) ∷ [] else [])
+    go : (b : Bool) → Each (IsNamed t) (if b then log_shown p (log_here t n p) ∷ [] else [])
     go true = (h, tt)
     go false = tt
 

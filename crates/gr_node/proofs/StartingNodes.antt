@@ -97,7 +97,7 @@ module _ (t : TopologyView) (bs : List ℕ) (n : NodeView) (s : HaveBegun t bs n
   has_started b m =
       let here = begun_broker b m in
       let one = s.each b here.0 here.1 in
-      record { broker = here.0; here = here.1; number = one.number; fits = one.fits; views = one.views; whole = one.whole; follow = one.follow }
+      record { broker = here.0; here = here.1; number = one.number; fits = one.fits; views = one.views; whole = one.whole; states = one.states }
 
   pub all_started : AllByRecursion (HasStarted t n) bs
   all_started = each_among (HasStarted t n) bs has_started

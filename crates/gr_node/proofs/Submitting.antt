@@ -1,6 +1,6 @@
 -- What a run logs for a publisher with a client: publishes of it come of notes alone, so each event that is logged is the one that the
 -- client submits with its number
-use Rattle.std.proofs.Common.{◌≡◌, ℕ, zero, suc, ◌+◌, ◌^◌, ◌≤◌, ◌<◌, min, Bool, true, false, not, List, [], ◌∷◌, ◌++◌, map, length, take, drop, Option, Some, None, Result, Ok, Err, refl, sym, ap, ap₂, ◌∙◌, subst, arith, length-take, length-drop, take-add}
+use Rattle.std.proofs.Common.{◌≡◌, ℕ, zero, suc, ◌^◌, ◌≤◌, ◌<◌, min, Bool, true, false, not, List, [], ◌∷◌, ◌++◌, map, length, take, drop, Option, Some, None, Result, Ok, Err, refl, sym, ap, ap₂, ◌∙◌, subst, arith, append-nil, length-take, length-drop, take-add}
 use Rattle.std.specs.Prelude.{if◌then◌else◌, flat_map, slice_get, is_some, IsSome}
 use Rattle.std.specs.List.{AllByRecursion, list_any}
 use Rattle.std.proofs.lemmas.Bool.{and_parts, true≢false}
@@ -13,19 +13,18 @@ use Rattle.gr_note.specs.declared.fault.NoteFault.{NoteFault}
 use Rattle.gr_note.specs.Bytes.{begins_note}
 use Rattle.gr_note.specs.Decode.{note_decoded}
 use Rattle.gr_out.specs.Journal.{is_among}
-use Rattle.gr_pubend.specs.Log.{log_of as log_made}
+use Rattle.gr_pubend.specs.Log.{past}
 use Rattle.gr_sched.specs.declared.step.Step.{Step}
 use Rattle.gr_sched.specs.declared.step.Step.TheVariants as step
 use Rattle.gr_sched.specs.declared.step.Line.{Line}
 use Rattle.gr_topo.specs.Topology.{TopologyView, host_of, client_of}
+use Rattle.gr_model.specs.declared.report.Report.{Report}
 use Rattle.gr_model.specs.Net.{Net, numbers}
 use Rattle.gr_model.specs.NetOf.{net_of}
 use Rattle.gr_model.specs.Broker.{Log, empty_log}
 use Rattle.gr_model.specs.World.{Transition, log_of}
 use Rattle.gr_model.specs.Opening.{reopened_log, over_logs}
 use Rattle.gr_model.specs.Arrivals.{Arrival, datagram, quiet, Publish, Request, asks_publish, asks_join, publisher_of, takes_notes, submitted_in, is_hosted, is_scheduled, requests_of, left_after}
-use Rattle.gr_model_theorems.specs.Lanes.{whole_logs}
-use Rattle.gr_model_theorems.proofs.records.Recorded.{get_map}
 use Rattle.gr_model_calls.proofs.runs.Schedules.{get_numbers, length_numbers}
 use Rattle.gr_node.specs.Plan.{Call, gets, wakes, Act, binds, starts, calls, settles, shows, is_ours, request_calls, wake_calls, submit_acts, note_acts, datagram_acts, acts_of, settling, led_to, acts_from, closing, turn_acts, run_acts, nodes, plan, all_entries}
 use Rattle.gr_node.specs.Served.{Course, world_before}
@@ -33,7 +32,8 @@ use Rattle.gr_node.specs.Submitted.{IsSubmission, AreSubmissions, IsFirstOf, Log
 use Rattle.gr_node.proofs.Acting.{all_front, all_append}
 use Rattle.gr_node.proofs.Notes.{submits}
 use Rattle.gr_node.proofs.Taken.{some_is}
-use Rattle.gr_node.proofs.Logging.{EachLogged, Adds, Grows, IsFine, acts_grow}
+use Rattle.gr_node.proofs.Logging.{EachLogged, Adds, Grows, IsFine, rise_on, acts_grow}
+use Rattle.gr_node.proofs.Onwards.{past_on}
 use Rattle.gr_node.proofs.Replying.{acts_say}
 
 -- What a plan publishes
@@ -159,7 +159,7 @@ all_pass : {X : Type 0} (P : X → Type 0) → ((x : X) → P x) → (xs : List 
 all_pass P each [] = tt
 all_pass {X} P each (x ∷ xs) = (each x, all_pass {X = X} P each xs)
 
-abbrev any_event : ℕ → Event → Type 0
+abbrev pub any_event : ℕ → Event → Type 0
 any_event n e = Unit {0}
 
 any_request : (p : ℕ) (x : Request) → IsRequest p any_event x
@@ -169,6 +169,14 @@ any_request p (asks_join s q) = tt
 any_noted : (net : Net) (p : ℕ) (a : Arrival) → IsNoted net p any_event a
 any_noted net p (datagram b bytes moment) = λ n x d s e. tt
 any_noted net p (quiet moment) = tt
+
+-- no line that the acts of what came tell by themselves says that something was logged
+pub turns_fine : (p : ℕ) (t : TopologyView) (hosted : List ℕ) (steps : List Line) (came : List Arrival) (closed : Bool) → AllByRecursion (IsFine p any_event) (turn_acts (net_of t) hosted steps came closed)
+turns_fine p t hosted steps came closed =
+    let net : Net = net_of t in
+    fine_append p any_event (acts_from net hosted (requests_of net hosted steps) came) (closing closed)
+    (came_fine p any_event net hosted (requests_of net hosted steps) came (all_pass (IsRequest p any_event) (any_request p) (requests_of net hosted steps)) (all_pass (IsNoted net p any_event) (any_noted net p) came))
+    (closing_fine p any_event closed)
 
 -- Where the events are those of a client
 
@@ -245,31 +253,32 @@ row_is es n (x ∷ new) h =
     ∙ sym (ap (take (suc (length new))) (drop_is es n x.1 (h.0 n refl)))
 
 -- a log with a further part of the list
-further : (es : List Event) (before after : Log) (new : List (ℕ × Event)) → after.events ≡ before.events ++ new → after.last ≡ before.last + length new
+further : (p : ℕ) (es : List Event) (before after : Log) (told : List Report) (new : List (ℕ × Event)) → Logs p before after told new
     → map (λ x. x.1) new ≡ take (length new) (drop before.last es) → IsFirstOf es before → IsFirstOf es after
-further es before after new events last are first =
+further p es before after told new logs are first =
     let part : List Event = drop before.last es in
     let many : length new ≡ min (length new) (length part) = sym (length-map new (λ (x : ℕ × Event). x.1)) ∙ (ap length are ∙ length-take (length new) part) in
     record {
-      within = omega (arith, last, many, length-drop before.last es, first.within);
-      events = ap (map (λ x. x.1)) events
-          ∙ (map-append (λ (x : ℕ × Event). x.1) before.events new
+      within = let last = logs.last in omega (arith, last, many, length-drop before.last es, first.within);
+      logged = first.logged ++ new;
+      ticks = rise_on 0 before.settled after.settled first.logged new first.ticks logs.ticks;
+      events = map-append (λ (x : ℕ × Event). x.1) first.logged new
           ∙ (ap₂ (λ (xs ys : List Event). xs ++ ys) first.events are
-          ∙ (sym (take-add before.last (length new) es) ∙ ap (λ k. take k es) (sym last))));
+          ∙ (sym (take-add before.last (length new) es) ∙ ap (λ k. take k es) (sym logs.last)));
+      past_cut = past_on before.cut after.cut first.logged before.events after.events [] new logs.cut (first.past_cut ∙ ap (past before.cut) (sym (append-nil first.logged))) logs.events;
     }
 
 -- The world before a run
 
--- the log of a publisher is that of the records found
+-- the log of a publisher is the one found
 log_before : (t : TopologyView) (c : Course) (p : ℕ) → p < length t.publishers → log_of (world_before t c) p ≡ log_found c p
 unfolding over_logs
 log_before t c p below =
-    get_numbers (reopened_log (whole_logs c.records)) 0 (length t.publishers) p empty_log below
-    ∙ (ap (reopened_log (whole_logs c.records)) (omega arith) ∙ get_map log_made c.records p [])
+    get_numbers (reopened_log c.logs) 0 (length t.publishers) p empty_log below ∙ ap (reopened_log c.logs) (omega arith)
 
 logs_before : (t : TopologyView) (c : Course) → length (world_before t c).logs ≡ length t.publishers
 unfolding over_logs
-logs_before t c = length_numbers (reopened_log (whole_logs c.records)) 0 (length t.publishers)
+logs_before t c = length_numbers (reopened_log c.logs) 0 (length t.publishers)
 
 module _ (t : TopologyView) (hosted : List ℕ) (steps : List Line) (c : Course) (done : List Act) (first : AreFirst t hosted steps c done) (p : ℕ) where
   abbrev end : Transition
@@ -298,7 +307,7 @@ module _ (t : TopologyView) (hosted : List ℕ) (steps : List Line) (c : Course)
   pub stay_first : (es : List Event) → IsOfClient t c p es → IsFirstOf es (log_found c p) → IsFirstOf es (log_of end.world p)
   stay_first es of is =
       let x = are_submitted es of in
-      further es (log_found c p) (log_of end.world p) x.0 x.1.events x.1.last x.2 is
+      further p es (log_found c p) (log_of end.world p) end.lines x.0 x.1 x.2 is
 
   -- Of what the journal offers to clients
   pub next_answered : (n : ℕ) → p < length t.publishers → n < 2 ^ 64 → list_any (offers_next p n) (all_entries t hosted (world_before t c) done) ≡ true

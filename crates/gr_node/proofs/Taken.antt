@@ -7,8 +7,7 @@ use Rattle.std.proofs.lemmas.List.{get_or-set_same, get_or-set_other, get_or_pas
 use Rattle.gr_out.specs.Entry.{Entry}
 use Rattle.gr_out.specs.Journal.{is_among}
 use Rattle.gr_publog.specs.declared.record.Record.{Record}
-use Rattle.gr_publog.specs.Crash.{LogView}
-use Rattle.gr_pubend.specs.Log.{log_of as log_made}
+use Rattle.gr_publog.specs.Views.{LogView}
 use Rattle.gr_topo.specs.Topology.{TopologyView, host_of}
 use Rattle.gr_model.specs.Net.{is_host}
 use Rattle.gr_model.specs.NetOf.{net_of}
@@ -17,21 +16,24 @@ use Rattle.gr_model.specs.World.{World, Transition, blank_view, view_of, log_of,
 use Rattle.gr_model.specs.Orders.{Order}
 use Rattle.gr_model_calls.proofs.rules.Serves.{frames_past_all}
 use Rattle.gr_model_theorems.proofs.server.CutEvents.{on_log}
-use Rattle.gr_broker.specs.Seen.{BrokerView, view_in, log_in, log_said, machine_log, with_view, with_log, with_logged}
+use Rattle.gr_broker.specs.Seen.{BrokerView, view_in, log_in, log_said, machine_log, with_view, with_log, with_logged, with_cut_if}
 use Rattle.gr_report.proofs.Passing.{none_some}
-use Rattle.gr_node.specs.Seen.{NodeView, broker_in, records_said}
+use Rattle.gr_node.specs.Seen.{NodeView, broker_in}
 use Rattle.gr_node.specs.Of.{Hosts}
 use Rattle.gr_node.specs.Plan.{offers_of}
 use Rattle.gr_node.specs.Done.{Done, taken_up}
+use Rattle.gr_node.proofs.Ordered.{IsOrdered}
 
 -- The node and the machine
 
--- what the calls keep of a broker: its number, one view and one log for each publisher, a log of those that are at it
+-- what the calls keep of a broker: its number, one view and one log for each publisher, a log of those that are at it, and that it is in
+-- order
 pub record IsShaped (t : TopologyView) (b : ℕ) (x : BrokerView) : Type 0 where
   pub number : x.number ≡ b
   pub views : length x.views ≡ length t.publishers
   pub logs : length x.logs ≡ length t.publishers
   pub hosted : (p : ℕ) → p < length t.publishers → is_some (log_in x p) ≡ is_host (net_of t) p b
+  pub ordered : (p : ℕ) (l : LogView) → log_in x p ≡ Some l → IsOrdered l.state
 
 -- The world is the node's: of the hosted brokers it has the same views, of the publishers at them the same logs
 pub record IsNode (t : TopologyView) (n : NodeView) (w : World) : Type 0 where
@@ -94,11 +96,6 @@ broker_within n b x e = elim (cases_lt b (length n.brokers)) [
   | inr h ↦ absurd (none_some (sym (get_or_past n.brokers b None h) ∙ e))
 ]
 
--- the log of its records is what the machine is said of it
-pub said_by : (s : Option LogView) → log_made (records_said s) ≡ log_said s
-said_by None = refl
-said_by (Some l) = refl
-
 -- A broker's part of one publisher is exchanged
 
 -- what is kept of the publisher then, and what stays
@@ -108,27 +105,34 @@ pub record Exchanges (p : ℕ) (x y : BrokerView) (v : View) : Type 0 where
   pub count : length y.logs ≡ length x.logs
   pub others : (q : ℕ) → q ≢ p → log_in y q ≡ log_in x q
   pub same : is_some (log_in y p) ≡ is_some (log_in x p)
+  pub ordered : (l : LogView) → log_in y p ≡ Some l → IsOrdered l.state
 
 -- the log is exchanged for one where there is one
 pub exchanges_log : (p : ℕ) (x : BrokerView) (l : Option LogView) (v : View) → p < length x.logs → is_some l ≡ is_some (log_in x p)
-    → Exchanges p x (with_view (with_log x p l) p v) v
-exchanges_log p x l v lt same = record {
+    → ((k : LogView) → l ≡ Some k → IsOrdered k.state) → Exchanges p x (with_view (with_log x p l) p v) v
+exchanges_log p x l v lt same ordered = record {
   number = refl;
   views = refl;
   count = length-set x.logs p l;
   others = λ q ne. get_or-set_other x.logs p q l None ne;
   same = ap (λ (o : Option LogView). is_some o) (get_or-set_same x.logs p l None lt) ∙ same;
+  ordered = λ k h. ordered k (sym (get_or-set_same x.logs p l None lt) ∙ h);
 }
 
 -- a broker of which the view alone is exchanged
-pub exchanges_view : (p : ℕ) (x : BrokerView) (v : View) → Exchanges p x (with_view x p v) v
-exchanges_view p x v = record { number = refl; views = refl; count = refl; others = λ q ne. refl; same = refl }
+pub exchanges_view : (p : ℕ) (x : BrokerView) (v : View) → ((l : LogView) → log_in x p ≡ Some l → IsOrdered l.state) → Exchanges p x (with_view x p v) v
+exchanges_view p x v ordered = record { number = refl; views = refl; count = refl; others = λ q ne. refl; same = refl; ordered = ordered }
 
 -- with a further record a log is there where it was
 pub logged_some : (o : Option LogView) (r : Option Record) → is_some (with_logged o r) ≡ is_some o
 logged_some None r = refl
 logged_some (Some l) None = refl
 logged_some (Some l) (Some r) = refl
+
+-- and once it is cut, or not
+pub cut_some : (o : Option LogView) (cut : Option ℕ) (reclaim : ℕ) → is_some (with_cut_if o cut reclaim) ≡ is_some o
+cut_some None cut reclaim = refl
+cut_some (Some l) cut reclaim = refl
 
 -- the pure calls keep the shape
 pub shaped_on : (t : TopologyView) (b p : ℕ) (x y : BrokerView) (v : View) → IsShaped t b x → Exchanges p x y v → IsShaped t b y
@@ -137,8 +141,13 @@ shaped_on t b p x y v s e = record {
   views = ap length e.views ∙ (length-set x.views p v ∙ s.views);
   logs = e.count ∙ s.logs;
   hosted = λ q j. go q j (cases_eq q p);
+  ordered = λ q l h. in_order q l h (cases_eq q p);
 }
   where
+    in_order : (q : ℕ) (l : LogView) → log_in y q ≡ Some l → (q ≡ p) ⊎ (q ≢ p) → IsOrdered l.state
+    in_order q l h (inl same) = e.ordered l (ap (λ k. log_in y k) (sym same) ∙ h)
+    in_order q l h (inr ne) = s.ordered q l (sym (e.others q ne) ∙ h)
+
     go : (q : ℕ) → q < length t.publishers → (q ≡ p) ⊎ (q ≢ p) → is_some (log_in y q) ≡ is_host (net_of t) q b
     go q j (inl h) = ap (λ k. is_some (log_in y k)) h ∙ (e.same ∙ (ap (λ k. is_some (log_in x k)) (sym h) ∙ s.hosted q j))
     go q j (inr h) = ap (λ (o : Option LogView). is_some o) (e.others q h) ∙ s.hosted q j

@@ -173,7 +173,7 @@ module _ (net : Net) (hosted : List ℕ) (left : List Request) (a : Arrival) (w 
   first_done = in_turn (act net hosted) first_acts w
 
   -- where it is one of ours, what is ready is told behind its lines
-  settles_ours : is_ours hosted a ≡ true → (s : Transition) → first_done ≡ s
+  pub settles_ours : is_ours hosted a ≡ true → (s : Transition) → first_done ≡ s
       → Settled net hosted w os (arrival_acts net hosted left a) (s.lines ++ ordered (fed os s.lines)) (without_ordered (fed os s.lines))
   settles_ours e s is = record {
     told = ap (λ (c : Bool). told_by_acts net hosted w os (first_acts ++ (if c then settles ∷ [] else []))) e

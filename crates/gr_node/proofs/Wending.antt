@@ -10,7 +10,7 @@ use Rattle.gr_out.specs.Entry.{Entry}
 use Rattle.gr_out.specs.Entry as entry
 use Rattle.gr_out.specs.Page.{TakesBut, TakesFront}
 use Rattle.gr_out.proofs.Fronts.{but-nothing, but-later, but-all, front-nothing, front-more, front-later, front-held, taken-whole, on_fault}
-use Rattle.gr_pubend.specs.Log.{Log, log_of}
+use Rattle.gr_model.specs.Broker.{Log}
 use Rattle.gr_topo.specs.Topology.{TopologyView}
 use Rattle.gr_model.specs.declared.report.Report.{Report}
 use Rattle.gr_model.specs.Text.{labels_of, whole_line}
@@ -19,7 +19,7 @@ use Rattle.gr_model.specs.Arrivals.{Arrival, Publish}
 use Rattle.gr_model.specs.Orders.{Order, fed, ordered}
 use Rattle.gr_broker_relay.specs.declared.outcome.Outcome.{Outcome}
 use Rattle.gr_report.specs.Named.{IsPutFault}
-use Rattle.gr_node.specs.Seen.{NodeView, records_in, text_of}
+use Rattle.gr_node.specs.Seen.{NodeView, log_here, text_of}
 use Rattle.gr_node.specs.Plan.{Call, Act, arrives, calls, answers, drops, settles, closes, entry_of, offers_of, reply_entry}
 use Rattle.gr_node.specs.Done.{Done, and_then, done, all_done, call_done, at_arrival, settled}
 use Rattle.gr_node.specs.Went.{Outside, outside, IsCallFault, IsTurnFault, fault_entries, uses_disk, FirstIs, Begins, Went, Makes}
@@ -331,7 +331,7 @@ made_closes t hosted tells n n' o o' e taken held journal = record {
 
 -- what was submitted is answered
 pub went_answers : {T : Type 0} (t : TopologyView) (hosted : List ℕ) (tells : Type 0) (x : Publish) (n : NodeView) (taken : Option (List ℕ)) (held : List ℕ) (before after : List Entry) (r : Result T RunFault)
-    → (tells → OnOk r (after ≡ before ++ reply_entry t (let l : Log = log_of (records_in t n x.0) in l.last) x ∷ [])) → (tells → OnErr r (after ≡ before)) → IsOkUnless r run.Memory
+    → (tells → OnOk r (after ≡ before ++ reply_entry t (let l : Log = log_here t n x.0 in l.last) x ∷ [])) → (tells → OnErr r (after ≡ before)) → IsOkUnless r run.Memory
     → Went {T = T} t hosted tells (answers x ∷ []) n n (outside taken held before) (outside taken held after) r
 unfolding all_done done
 went_answers t hosted tells x n taken held before after (Ok y) sent unsent cause = went_ok t hosted tells (answers x ∷ []) n n (outside taken held before) (outside taken held after) y (record {
@@ -390,7 +390,7 @@ pub record Telling {T : Type 0} (t : TopologyView) (tells : Type 0) (told : Outc
   pub cause : IfErr r IsPutFault
 
 -- the act of a call, by what it does
-call_is : (t : TopologyView) (hosted : List ℕ) (n : NodeView) (c : Call) → all_done t hosted n (calls c ∷ []) ≡ call_done t n c
+pub call_is : (t : TopologyView) (hosted : List ℕ) (n : NodeView) (c : Call) → all_done t hosted n (calls c ∷ []) ≡ call_done t n c
 unfolding done
 call_is t hosted n c = done_one t hosted n (calls c)
 

@@ -5,12 +5,16 @@ use Rattle.std.proofs.lemmas.List.{map-append, drop_all}
 use Rattle.std.proofs.Math.Seq.{drop-cons}
 use Rattle.gr_out.specs.declared.fault.RunFault.{RunFault}
 use Rattle.gr_out.specs.declared.fault.RunFault.TheVariants as run
+use Rattle.gr_out.specs.Lane.{Lane}
 use Rattle.gr_topo.specs.Topology.{TopologyView}
 use Rattle.gr_model.specs.Net.{numbers_from}
 use Rattle.gr_report.proofs.Along.{numbers_left}
 use Rattle.gr_node.specs.Seen.{NodeView}
 use Rattle.gr_node.specs.Plan.{Call, Act, calls, wakes, wake_calls}
+use Rattle.gr_node.specs.Done.{all_done}
 use Rattle.gr_node.specs.Went.{Outside, Went}
+use Rattle.gr_node.specs.Lasting.{ActsKeep}
+use Rattle.gr_node.proofs.Lasting.{node_behind, acts_same, acts_front, acts_then}
 use Rattle.gr_node.proofs.Wending.{MadeAll, made_none, made_on, all_made, went_ok, went_on, went_cut}
 
 -- of all these acts those before the ones that are left were made
@@ -92,3 +96,47 @@ pub calls_cut : {T : Type 0} (t : TopologyView) (hosted : List ℕ) (tells : Typ
     → Went {T = T} t hosted tells (map calls xs) n n' o o' (Err e) → Went {T = T} t hosted tells (map calls (xs ++ ys)) n n' o o' (Err e)
 calls_cut {T} t hosted tells xs ys n n' o o' e other w = subst (λ acts. Went {T = T} t hosted tells acts n n' o o' (Err e)) (sym (map-append (λ c. calls c) xs ys))
     (went_cut t hosted tells (map calls xs) (map calls ys) n n' o o' e other w)
+
+-- What the acts that were made did to the lanes
+
+-- acts that were all made, and then others
+pub kept_then : {T : Type 0} (t : TopologyView) (hosted : List ℕ) (tells : Type 0) (xs ys : List Act) (n m : NodeView) (o u : Outside) (x : T) (a b c : ℕ → Lane)
+    → Went {T = T} t hosted tells xs n m o u (Ok x) → ActsKeep t hosted n xs a b → ActsKeep t hosted m ys b c → ActsKeep t hosted n (xs ++ ys) a c
+kept_then t hosted tells xs ys n m o u x a b c w one two = acts_then t hosted n m xs ys a b c one (all_made t hosted tells xs n m o u x w).node two
+
+-- the same of calls
+pub calls_kept : {T : Type 0} (t : TopologyView) (hosted : List ℕ) (tells : Type 0) (xs ys : List Call) (n m : NodeView) (o u : Outside) (x : T) (a b c : ℕ → Lane)
+    → Went {T = T} t hosted tells (map calls xs) n m o u (Ok x) → ActsKeep t hosted n (map calls xs) a b → ActsKeep t hosted m (map calls ys) b c → ActsKeep t hosted n (map calls (xs ++ ys)) a c
+calls_kept t hosted tells xs ys n m o u x a b c w one two = subst (λ acts. ActsKeep t hosted n acts a c) (sym (map-append (λ c. calls c) xs ys)) (kept_then t hosted tells (map calls xs) (map calls ys) n m o u x a b c w one two)
+
+pub calls_kept_front : (t : TopologyView) (hosted : List ℕ) (xs ys : List Call) (n : NodeView) (a b : ℕ → Lane) → ActsKeep t hosted n (map calls xs) a b → ActsKeep t hosted n (map calls (xs ++ ys)) a b
+calls_kept_front t hosted xs ys n a b k = subst (λ acts. ActsKeep t hosted n acts a b) (sym (map-append (λ c. calls c) xs ys)) (acts_front t hosted n (map calls xs) (map calls ys) a b k)
+
+-- of all these acts those before the ones that are left were made
+pub record WithinKept (t : TopologyView) (hosted : List ℕ) (all left : List Act) (n n' : NodeView) (lanes lanes' : ℕ → Lane) : Type 0 where
+  pub made : List Act
+  pub parts : made ++ left ≡ all
+  pub node : n' ≡ (all_done t hosted n made).node
+  pub keep : ActsKeep t hosted n made lanes lanes'
+
+pub kept_none : (t : TopologyView) (hosted : List ℕ) (all left : List Act) (n : NodeView) (lanes : ℕ → Lane) → left ≡ all → WithinKept t hosted all left n n lanes lanes
+unfolding all_done
+kept_none t hosted all left n lanes e = record { made = []; parts = e; node = refl; keep = acts_same t hosted n [] lanes }
+
+pub kept_more : {T : Type 0} (t : TopologyView) (hosted : List ℕ) (tells : Type 0) (all left next more : List Act) (n m n' : NodeView) (u o' : Outside) (x : T) (a b c : ℕ → Lane) → left ≡ next ++ more
+    → WithinKept t hosted all left n m a b → Went {T = T} t hosted tells next m n' u o' (Ok x) → ActsKeep t hosted m next b c → WithinKept t hosted all more n n' a c
+kept_more t hosted tells all left next more n m n' u o' x a b c e w g k = record {
+  made = w.made ++ next;
+  parts = append_assoc w.made next more ∙ (ap (λ xs. w.made ++ xs) (sym e) ∙ w.parts);
+  node = (all_made t hosted tells next m n' u o' x g).node ∙ (ap (λ (k : NodeView). (all_done t hosted k next).node) w.node ∙ sym (node_behind t hosted n w.made next));
+  keep = acts_then t hosted n m w.made next a b c w.keep w.node k;
+}
+
+pub kept_cut : (t : TopologyView) (hosted : List ℕ) (all left next more : List Act) (n m : NodeView) (a b c : ℕ → Lane) → left ≡ next ++ more
+    → WithinKept t hosted all left n m a b → ActsKeep t hosted m next b c → ActsKeep t hosted n all a c
+kept_cut t hosted all left next more n m a b c e w k =
+    subst (λ acts. ActsKeep t hosted n acts a c) (ap (λ xs. w.made ++ xs) (sym e) ∙ w.parts)
+    (acts_then t hosted n m w.made (next ++ more) a b c w.keep w.node (acts_front t hosted m next more b c k))
+
+pub kept_all : (t : TopologyView) (hosted : List ℕ) (all left : List Act) (n n' : NodeView) (a b : ℕ → Lane) → left ≡ [] → WithinKept t hosted all left n n' a b → ActsKeep t hosted n all a b
+kept_all t hosted all left n n' a b e w = subst (λ acts. ActsKeep t hosted n acts a b) (sym (append-nil w.made) ∙ (ap (λ xs. w.made ++ xs) (sym e) ∙ w.parts)) w.keep

@@ -2,8 +2,8 @@
 use Rattle.std.specs.Prelude.{◌≡◌, ℕ, ◌<◌, false, length, Some}
 use Rattle.gr_out.specs.declared.fault.RunFault.{RunFault}
 use Rattle.gr_out.specs.declared.fault.RunFault.TheVariants as run
-use Rattle.gr_publog.specs.State.{first_standing, Follow}
-use Rattle.gr_publog.specs.Crash.{LogView}
+use Rattle.gr_publog.specs.State.{IsState}
+use Rattle.gr_publog.specs.Views.{LogView}
 use Rattle.gr_topo.specs.Topology.{TopologyView}
 use Rattle.gr_model.specs.NetOf.{net_of}
 use Rattle.gr_broker.specs.declared.outcome.BrokerFault.{BrokerFault}
@@ -12,9 +12,9 @@ use Rattle.gr_broker.specs.Seen.{BrokerView, view_in, log_in, machine_log}
 use Rattle.gr_broker.specs.Of.{IsBrokerOf}
 use Rattle.gr_broker.specs.Opened.{opened_at}
 
--- the records of each log follow one another
-abbrev pub LogsFollow : BrokerView → Type 0
-LogsFollow x = (p : ℕ) (l : LogView) → log_in x p ≡ Some l → Follow (first_standing l.late) l.records
+-- what each log holds is a state
+abbrev pub HoldStates : BrokerView → Type 0
+HoldStates x = (p : ℕ) (l : LogView) → log_in x p ≡ Some l → IsState l.state
 
 -- over the logs that it has
 pub record HasBegun (t : TopologyView) (b : ℕ) (x : BrokerView) : Type 0 where
@@ -22,7 +22,7 @@ pub record HasBegun (t : TopologyView) (b : ℕ) (x : BrokerView) : Type 0 where
   pub fits : IsBrokerOf t x
   pub views : (p : ℕ) → p < length t.publishers → view_in x p ≡ (opened_at (net_of t) p b (machine_log x p)).view
   pub whole : (p : ℕ) (l : LogView) → log_in x p ≡ Some l → l.broken ≡ false
-  pub follow : LogsFollow x
+  pub states : HoldStates x
 
 -- why it may not start
 abbrev pub IsStartFault : RunFault → Type 0

@@ -13,11 +13,10 @@ use Rattle.gr_model.specs.Broker.{Outcome as MachineOutcome, Log, max_tick}
 use Rattle.gr_model.specs.World.{sent_lines, kept_events}
 use Rattle.gr_model.specs.Arrivals.{Arrival, fault_number, is_hosted, split_line}
 use Rattle.gr_model.specs.Orders.{fed, ordered, without_ordered}
-use Rattle.gr_pubend.specs.Log.{log_of}
 use Rattle.gr_broker.specs.Seen.{BrokerView, view_in}
 use Rattle.gr_broker.specs.Hosted.{publish_at, after_publish, join_at, after_join, wake_at, after_wake}
 use Rattle.gr_broker.specs.Receipt.{Receipt, no_frame, stray, split, clash, taken, receipt, after_receipt}
-use Rattle.gr_node.specs.Seen.{NodeView, broker_in, records_in}
+use Rattle.gr_node.specs.Seen.{NodeView, broker_in, log_here}
 use Rattle.gr_node.specs.Plan.{Call, gets, publishes, joins, wakes, Act, binds, starts, arrives, calls, answers, drops}
 use Rattle.gr_node.specs.Plan.{settles, closes, shows, is_ours, moment_of, entry_of, offers_of, reply_entry}
 
@@ -91,7 +90,7 @@ log_shown p l = line.LogOf p l.last l.settled l.cut (kept_events l)
 
 abbrev pub log_shown_in : TopologyView → List ℕ → NodeView → ℕ → List Report
 log_shown_in t hosted n p =
-    if is_hosted (net_of t) hosted p then log_shown p (log_of (records_in t n p)) ∷ [] else []
+    if is_hosted (net_of t) hosted p then log_shown p (log_here t n p) ∷ [] else []
 
 abbrev pub logs_shown : TopologyView → List ℕ → NodeView → List Report
 logs_shown t hosted n = flat_map (log_shown_in t hosted n) (numbers (length t.publishers))
@@ -128,7 +127,7 @@ done t hosted n (starts b) = still n
 done t hosted n (arrives a) = record { node = at_arrival hosted n a; lines = []; entries = entry_of a ∷ [] }
 done t hosted n (calls c) = call_done t n c
 done t hosted n (answers x) =
-    let l : Log = log_of (records_in t n x.0) in
+    let l : Log = log_here t n x.0 in
     record { node = n; lines = []; entries = reply_entry t l.last x ∷ [] }
 done t hosted n (drops l) = record { node = n; lines = l ∷ []; entries = [] }
 done t hosted n settles = record { node = settled n; lines = ordered n.orders; entries = [] }

@@ -13,7 +13,7 @@ use Rattle.gr_model.specs.NetOf.{net_of}
 use Rattle.gr_model.specs.Arrivals.{Arrival}
 use Rattle.gr_model_theorems.specs.Served.{IsOfBytes}
 use Rattle.gr_node.specs.Seen.{NodeView, text_of}
-use Rattle.gr_node.specs.Lasting.{StoodEachTime}
+use Rattle.gr_node.specs.Lasting.{ActsKeep, StoodEachTime}
 use Rattle.gr_node.specs.Plan.{Act, shows, run_acts}
 use Rattle.gr_node.specs.Done.{all_done, settled}
 use Rattle.gr_node.specs.Went.{Outside, IsExact, fault_entries, Begins}
@@ -61,7 +61,7 @@ pub record Ran {T : Type 0} (t : TopologyView) (hosted : List ℕ) (tells : Type
 -- so it went with what came, which are no more arrivals than were asked for, once it was told what was ready in one
 -- order
 pub record RanWith {T : Type 0} (t : TopologyView) (hosted : List ℕ) (tells keeps : Type 0) (steps : List Line)
-    (turns : ℕ) (n n' : NodeView) (before after : Outside) (lanes : ℕ → Lane)
+    (turns : ℕ) (n n' : NodeView) (before after : Outside) (lanes lanes' : ℕ → Lane)
     (result : Result T RunFault) : Type 0 where
   pub came : List Arrival
   pub closed : Bool
@@ -70,7 +70,8 @@ pub record RanWith {T : Type 0} (t : TopologyView) (hosted : List ℕ) (tells ke
   pub ended : OnOk result ((closed ≡ true) ⊎ (length came ≡ turns))
   pub ran : Ran {T = T} t hosted tells
       (run_acts (net_of t) hosted steps came closed ++ shows ∷ []) n n' before after result
-  pub stood : keeps → StoodEachTime t hosted steps (settled n) came lanes
+  pub kept : keeps → ActsKeep t hosted n (run_acts (net_of t) hosted steps came closed) lanes lanes'
+  pub stood : keeps → StoodEachTime t hosted steps (settled n) came closed lanes'
 
 -- What a whole run does, and what it leaves at the post, at the sink and on the disk
 pub record Serves {T : Type 0} (t : TopologyView) (hosted : List ℕ) (steps : List Line) (turns : ℕ)

@@ -11,7 +11,6 @@ use Rattle.gr_model.specs.Arrivals.{is_hosted}
 use Rattle.gr_report.specs.Named.{IsPutFault}
 use Rattle.gr_node.specs.Seen.{NodeView}
 use Rattle.gr_node.specs.Of.{AreHosted, IsSet, AllStand, OthersStay}
-use Rattle.gr_node.specs.Lasting.{AllKeep}
 use Rattle.gr_node.specs.Went.{SinkMoves, DiskMoves, PostMoves}
 
 -- What they need
@@ -46,12 +45,11 @@ pub record TellKeeps {T : Type 0} (sink sink' post post' : ℕ) (result : Result
   pub puts : PutKeeps sink sink' result
   pub post_same : post' ≡ post
 
--- What each call of a turn keeps: no lane is touched but those of publishers at hosted brokers, and none loses
--- anything; the counts of disk and sink move as its answer says, and the post's stays
+-- What each call of a turn keeps: no lane is touched but those of publishers at hosted brokers; the counts of disk and
+-- sink move as its answer says, and the post's stays
 pub record TurnKeeps {S T : Type 0} (t : TopologyView) (hosted : List ℕ) (tells : Type 0) (lane_of : S → ℕ → Lane)
     (faults stops : S → ℕ) (old new : S) (sink sink' post post' : ℕ) (result : Result T RunFault) : Type 0 where
   pub others : tells → OthersStay t hosted (lane_of old) (lane_of new)
-  pub lanes_keep : tells → (l : ℕ → Lane) → AllKeep t.late l (lane_of old) → AllKeep t.late l (lane_of new)
   pub disk_moves : DiskMoves (faults old) (stops old) (faults new) (stops new) result
   pub sink_moves : SinkMoves sink sink' result
   pub post_same : post' ≡ post

@@ -1,56 +1,138 @@
--- What a lane had at some time, and a crash at any moment since then leaves
-use Rattle.std.specs.Prelude.{◌≡◌, ℕ, ◌<◌, List, ◌++◌, length, take, Ok}
-use Rattle.gr_out.specs.Lane.{Lane, moment, MayLeave, LeftSince}
-use Rattle.gr_publog.specs.declared.record.Record.{Record}
-use Rattle.gr_publog.specs.Text.{log_text}
-use Rattle.gr_publog.specs.Crash.{Stands}
-use Rattle.gr_publog.specs.Calls.{GoesOn}
+-- What the lanes of publishers had at some time, and a crash at any moment since then leaves
+use Rattle.std.specs.Prelude.{◌≡◌, ℕ, ◌<◌, ◌≤◌, Bool, true, List, [], ◌∷◌, ◌++◌, length, take, Ok}
+use Rattle.gr_event.specs.declared.event.Event.{Event}
+use Rattle.gr_event.specs.declared.join.Join.{Join}
+use Rattle.gr_out.specs.Lane.{Lane}
+use Rattle.gr_publog.specs.State.{LogState}
+use Rattle.gr_publog.specs.Lanes.{state_in}
+use Rattle.gr_publog.specs.Views.{LogView, Lanes, lanes_at, MayLeavePair, LeftPair, Stands}
+use Rattle.gr_pubend.specs.Log.{past, pairs, said}
 use Rattle.gr_sched.specs.declared.step.Line.{Line}
 use Rattle.gr_topo.specs.Topology.{TopologyView}
 use Rattle.gr_model.specs.NetOf.{net_of}
+use Rattle.gr_model.specs.Broker.{Log}
 use Rattle.gr_model.specs.Arrivals.{Arrival, requests_of}
-use Rattle.gr_node.specs.Seen.{NodeView}
+use Rattle.gr_broker.specs.Lanes.{log_lane, GoesOnBoth}
+use Rattle.gr_node.specs.Seen.{NodeView, log_here}
 use Rattle.gr_node.specs.Of.{IsSet, AllStand}
-use Rattle.gr_node.specs.Plan.{acts_from}
-use Rattle.gr_node.specs.Done.{Done, all_done}
+use Rattle.gr_node.specs.Plan.{Call, Act, acts_from, turn_acts}
+use Rattle.gr_node.specs.Done.{Done, call_done, all_done}
 
--- bytes that read, where these subscribers may join, as a log which begins with these records
-abbrev pub BeginsWith : List ℕ → List Record → List ℕ → Type 0
-BeginsWith late rs image = (more : List Record) × (log_text late image ≡ Ok (rs ++ more))
+-- What is read
 
--- A lane stood with these records at an earlier time and goes on from there: whatever a crash may have left at any
--- moment since then begins with them
-pub record Lasts (late : List ℕ) (rs : List Record) (before after : Lane) : Type 0 where
-  pub stood : Stands before late rs
-  pub on : GoesOn before after
-  pub images : (image : List ℕ) → LeftSince after (moment before) image → BeginsWith late rs image
+-- the machine's log of what two lanes hold, but for the generation and the size of their text
+abbrev pub log_read : LogState → Log
+log_read s = record {
+  last = s.last;
+  settled = s.settled;
+  cut = s.cut;
+  events = pairs s.events;
+  joins = s.joins;
+  generation = 0;
+  size = 0;
+  forgets = true;
+}
 
--- A lane goes on from an earlier time, and lost nothing since: records with which all begins that a crash might have
--- left then are those with which all begins that a crash may have left at any moment since
-pub record Keeps (late : List ℕ) (before after : Lane) : Type 0 where
-  pub on : GoesOn before after
-  pub images : (rs : List Record) → ((image : List ℕ) → MayLeave before image → BeginsWith late rs image)
-      → (image : List ℕ) → LeftSince after (moment before) image → BeginsWith late rs image
+-- A log goes on from an earlier one: no number is lower, it has all joins of it, and past its cut the same events. What
+-- it has besides stands behind them
+pub record Onward (l m : Log) : Type 0 where
+  pub last : l.last ≤ m.last
+  pub settled : l.settled ≤ m.settled
+  pub cut : l.cut ≤ m.cut
+  pub more_joins : List Join
+  pub joins : m.joins ≡ l.joins ++ more_joins
+  pub more : List (ℕ × Event)
+  pub events : past m.cut m.events ≡ past m.cut (l.events ++ more)
 
--- and so does each lane
-pub record AllKeep (late : List ℕ) (before after : ℕ → Lane) : Type 0 where
-  pub lane : (n : ℕ) → Keeps late (before n) (after n)
+-- a pair of images holds, where these subscribers may join, a log that goes on from this one
+abbrev pub HoldsOnward : List ℕ → Log → List ℕ → List ℕ → Type 0
+HoldsOnward late l a b = (s : LogState) × (state_in late a b ≡ Ok s) × Onward l (log_read s)
 
--- the brokers after the acts of so many arrivals
+-- and from which another one goes on
+abbrev pub HoldsBetween : List ℕ → Log → Log → List ℕ → List ℕ → Type 0
+HoldsBetween late l m a b = (s : LogState) × (state_in late a b ≡ Ok s) × Onward l (log_read s) × Onward (log_read s) m
+
+-- it holds what a pair holds that a crash might have left of these lanes, or has its fault
+abbrev pub IsFound : List ℕ → Lanes → List ℕ → List ℕ → Type 0
+IsFound late ls a b = (x y : List ℕ) × MayLeavePair ls x y × (state_in late a b ≡ state_in late x y)
+
+-- Lanes from one time to another
+
+-- Two lanes went from one time to another by parts, of one call each. Whatever pair of images a crash may have left at
+-- any moment of a part is so. Over several calls the product of both lanes would have pairs that no crash leaves
+abbrev pub Along : (List ℕ → List ℕ → Type 0) → Lanes → List Lanes → Lanes → Type 0
+Along P before [] after = after ≡ before
+Along P before (next ∷ parts) after = GoesOnBoth before next
+    × ((a b : List ℕ) → LeftPair before next a b → P a b) × Along P next parts after
+
+-- A call does this to the lanes of each publisher: at every moment they hold what lies between its log before the call
+-- and that after it
+pub record CallKeeps (t : TopologyView) (n : NodeView) (c : Call) (before after : ℕ → Lane) : Type 0 where
+  pub lanes : (p : ℕ) → (parts : List Lanes)
+      × Along (HoldsBetween t.late (log_here t n p) (log_here t (call_done t n c).node p))
+      (lanes_at before (log_lane p)) parts (lanes_at after (log_lane p))
+
+-- the log of a publisher after acts
+abbrev pub log_after : TopologyView → List ℕ → NodeView → List Act → ℕ → Log
+log_after t hosted n acts p = let d : Done = all_done t hosted n acts in log_here t d.node p
+
+-- a pair of images holds what lies between the log after the first of these acts and that after one more, or none
+pub record IsDuring (t : TopologyView) (hosted : List ℕ) (n : NodeView) (acts : List Act) (p : ℕ) (a b : List ℕ)
+    : Type 0 where
+  pub made : List Act
+  pub next : List Act
+  pub left : List Act
+  pub parts : made ++ (next ++ left) ≡ acts
+  pub one : length next ≤ 1
+  pub holds : HoldsBetween t.late (log_after t hosted n made p) (log_after t hosted n (made ++ next) p) a b
+
+-- acts do that to the lanes of each publisher, however far they were made
+pub record ActsKeep (t : TopologyView) (hosted : List ℕ) (n : NodeView) (acts : List Act) (before after : ℕ → Lane)
+    : Type 0 where
+  pub lanes : (p : ℕ) → (parts : List Lanes) × Along (IsDuring t hosted n acts p)
+      (lanes_at before (log_lane p)) parts (lanes_at after (log_lane p))
+
+-- starts do this to them: at every moment they hold what they held before
+pub record StartsKeep (late : List ℕ) (before after : ℕ → Lane) : Type 0 where
+  pub lanes : (p : ℕ) → (parts : List Lanes) × Along (IsFound late (lanes_at before (log_lane p)))
+      (lanes_at before (log_lane p)) parts (lanes_at after (log_lane p))
+
+-- Lanes that stood
+
+-- two lanes stand with a log of which the machine's is this one
+pub record HoldsLog (subscribers : List ℕ) (ls : Lanes) (log : Log) : Type 0 where
+  pub view : LogView
+  pub stands : Stands ls view
+  pub late : view.state.late ≡ subscribers
+  pub says : said view ≡ log
+
+-- Two lanes stood with a log at an earlier time: whatever a crash might have left then, or may have left at any moment
+-- since, goes on from it
+pub record Lasts (late : List ℕ) (log : Log) (before after : Lanes) : Type 0 where
+  pub stood : HoldsLog late before log
+  pub first : (a b : List ℕ) → MayLeavePair before a b → HoldsOnward late log a b
+  pub parts : List Lanes
+  pub since : Along (HoldsOnward late log) before parts after
+
+-- the acts of what came, and the brokers after those of so many arrivals
+abbrev pub acts_came : TopologyView → List ℕ → List Line → List Arrival → List Act
+acts_came t hosted steps came = acts_from (net_of t) hosted (requests_of (net_of t) hosted steps) came
+
 abbrev pub node_upto : TopologyView → List ℕ → List Line → NodeView → List Arrival → ℕ → NodeView
 node_upto t hosted steps n came k =
-    let d : Done =
-    all_done t hosted n (acts_from (net_of t) hosted (requests_of (net_of t) hosted steps) (take k came)) in
-    d.node
+    let d : Done = all_done t hosted n (acts_came t hosted steps (take k came)) in d.node
 
--- After so many arrivals and their acts all logs stood, and since then no lane has lost anything
+-- After so many arrivals and their acts all logs stood, and since then the lanes went on by the acts of the others
 pub record StoodAfter (t : TopologyView) (hosted : List ℕ) (steps : List Line) (n : NodeView) (came : List Arrival)
-    (k : ℕ) (lanes : ℕ → Lane) : Type 0 where
+    (closed : Bool) (k : ℕ) (lanes : ℕ → Lane) : Type 0 where
   pub between : ℕ → Lane
   pub set : IsSet t hosted (node_upto t hosted steps n came k)
   pub stand : AllStand between (node_upto t hosted steps n came k)
-  pub keep : AllKeep t.late between lanes
+  pub later : List Act
+  pub acts : acts_came t hosted steps (take k came) ++ later ≡ turn_acts (net_of t) hosted steps came closed
+  pub keep : ActsKeep t hosted (node_upto t hosted steps n came k) later between lanes
 
 -- so it was each time that one more came
-abbrev pub StoodEachTime : TopologyView → List ℕ → List Line → NodeView → List Arrival → (ℕ → Lane) → Type 0
-StoodEachTime t hosted steps n came lanes = (k : ℕ) → k < length came → StoodAfter t hosted steps n came k lanes
+abbrev pub StoodEachTime : TopologyView → List ℕ → List Line → NodeView → List Arrival → Bool → (ℕ → Lane) → Type 0
+StoodEachTime t hosted steps n came closed lanes =
+    (k : ℕ) → k < length came → StoodAfter t hosted steps n came closed k lanes

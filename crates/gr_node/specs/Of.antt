@@ -1,10 +1,10 @@
 -- What holds of a node between its calls, and of what a run is asked
-use Rattle.std.specs.Prelude.{◌≡◌, ◌≢◌, ℕ, ◌<◌, ◌≤◌, true, false, List, length, Some, is_some, IsSome}
+use Rattle.std.specs.Prelude.{◌≡◌, ℕ, ◌<◌, ◌≤◌, true, false, List, length, Some, is_some, IsSome}
 use Rattle.std.specs.List.{AllByRecursion}
 use Rattle.gr_out.specs.Journal.{is_among}
 use Rattle.gr_out.specs.Lane.{Lane}
 use Rattle.gr_tick.specs.declared.TheConstants.{MAX_TICK}
-use Rattle.gr_publog.specs.Crash.{LogView}
+use Rattle.gr_publog.specs.Views.{LogView, AwayFrom}
 use Rattle.gr_topo.specs.Topology.{TopologyView, address_of, host_of}
 use Rattle.gr_model.specs.NetOf.{IsRising}
 use Rattle.gr_model.specs.Orders.{AreOrdersOf}
@@ -38,10 +38,11 @@ Hosts hosted n = (b : ℕ) → is_some (broker_in n b) ≡ is_among hosted b
 abbrev pub AllStand : (ℕ → Lane) → NodeView → Type 0
 AllStand lanes n = (b : ℕ) (x : BrokerView) → broker_in n b ≡ Some x → LogsStand lanes x
 
--- no lane was touched but those of publishers at these brokers
+-- no lane was touched but the two of each publisher at these brokers
 abbrev pub OthersStay : TopologyView → List ℕ → (ℕ → Lane) → (ℕ → Lane) → Type 0
 OthersStay t bs before after = (n : ℕ)
-    → ((p : ℕ) → p < length t.publishers → is_among bs (host_of t p) ≡ true → n ≢ log_lane p) → after n ≡ before n
+    → ((p : ℕ) → p < length t.publishers → is_among bs (host_of t p) ≡ true → AwayFrom (log_lane p) n)
+    → after n ≡ before n
 
 -- a node that hosts these brokers, between two calls
 pub record IsSet (t : TopologyView) (hosted : List ℕ) (n : NodeView) : Type 0 where

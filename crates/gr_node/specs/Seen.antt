@@ -1,12 +1,11 @@
 -- What a contract sees of a node
-use Rattle.std.specs.Prelude.{ℕ, List, [], length, get_or, replicate, Option, Some, None}
-use Rattle.gr_publog.specs.declared.record.Record.{Record}
+use Rattle.std.specs.Prelude.{ℕ, List, length, get_or, replicate, Option, Some, None}
 use Rattle.gr_topo.specs.Topology.{TopologyView, host_of}
 use Rattle.gr_model.specs.declared.report.Report.{Report}
 use Rattle.gr_model.specs.Text.{labels_of, report_text}
+use Rattle.gr_model.specs.Broker.{Log, empty_log}
 use Rattle.gr_model.specs.Orders.{Order, orders_of}
-use Rattle.gr_publog.specs.Crash.{LogView}
-use Rattle.gr_broker.specs.Seen.{BrokerView, log_in}
+use Rattle.gr_broker.specs.Seen.{BrokerView, machine_log}
 use Rattle.gr_node.specs.declared.node.Node.{Node}
 
 -- The hosted brokers, how many frames they have offered, the moment of the last arrival, and what the subscribers that
@@ -33,18 +32,13 @@ none_started t = record {
   orders = orders_of t;
 }
 
--- the records of a log; where there is none, none
-abbrev pub records_said : Option LogView → List Record
-records_said None = []
-records_said (Some l) = l.records
+-- the machine's log of a publisher at its host; where that is not hosted, one in which nothing was logged
+abbrev pub log_at : Option BrokerView → ℕ → Log
+log_at None p = empty_log
+log_at (Some x) p = machine_log x p
 
--- the records of a publisher's log at its host, where that is hosted
-abbrev pub records_at : Option BrokerView → ℕ → List Record
-records_at None p = []
-records_at (Some x) p = records_said (log_in x p)
-
-abbrev pub records_in : TopologyView → NodeView → ℕ → List Record
-records_in t n p = records_at (broker_in n (host_of t p)) p
+abbrev pub log_here : TopologyView → NodeView → ℕ → Log
+log_here t n p = log_at (broker_in n (host_of t p)) p
 
 -- the text of lines
 abbrev pub text_of : TopologyView → List Report → List ℕ

@@ -1,6 +1,6 @@
 -- What a run did, from its first binding to what is shown at the end, and what it left outside
 use Rattle.std.specs.Prelude.{◌≡◌, ◌⊎◌, ℕ, ◌<◌, ◌≤◌, Bool, true, false, ◌&&◌, nat_eq, bytes_eq, List, [], ◌∷◌}
-use Rattle.std.specs.Prelude.{◌++◌, length, map, take, get_or, Option, Result, Ok, Err, OnOk, OnErr}
+use Rattle.std.specs.Prelude.{◌++◌, length, map, take, get_or, Option, Result, Err, OnOk, OnErr}
 use Rattle.std.specs.List.{list_any, AllByRecursion}
 use Rattle.gr_frame.specs.declared.fault.FrameFault.{FrameFault}
 use Rattle.gr_frame.specs.Decode.{frame_decoded}
@@ -8,42 +8,40 @@ use Rattle.gr_out.specs.declared.fault.RunFault.{RunFault}
 use Rattle.gr_out.specs.declared.fault.RunFault.TheVariants as run
 use Rattle.gr_out.specs.Bytes.{with_more}
 use Rattle.gr_out.specs.Entry.{Entry, offered, datagram}
-use Rattle.gr_out.specs.Lane.{Lane, content}
+use Rattle.gr_out.specs.Lane.{Lane}
 use Rattle.gr_out.specs.Page.{TakesFront}
-use Rattle.gr_publog.specs.declared.record.Record.{Record}
-use Rattle.gr_publog.specs.Text.{log_text}
-use Rattle.gr_publog.specs.Crash.{Stands}
-use Rattle.gr_pubend.specs.Log.{log_of}
+use Rattle.gr_publog.specs.Views.{Lanes, lanes_at}
 use Rattle.gr_sched.specs.declared.step.Line.{Line}
 use Rattle.gr_topo.specs.Topology.{TopologyView, host_of}
 use Rattle.gr_model.specs.declared.report.Report.{Report}
 use Rattle.gr_model.specs.NetOf.{net_of}
-use Rattle.gr_model.specs.World.{World, Transition, in_turn, log_of as machine_log_of}
+use Rattle.gr_model.specs.Broker.{Log, empty_log}
+use Rattle.gr_model.specs.World.{World, Transition, in_turn, log_of}
 use Rattle.gr_model.specs.Opening.{over_logs}
 use Rattle.gr_model.specs.Arrivals.{Arrival, is_hosted, served, requests_of}
 use Rattle.gr_model.specs.Orders.{orders_of, with_orders}
 use Rattle.gr_model_theorems.specs.Served.{joined, IsOfBytes}
-use Rattle.gr_model_theorems.specs.Lanes.{AllFollow, whole_logs}
+use Rattle.gr_model_theorems.specs.Forgets.{AllOpened}
 use Rattle.gr_broker.specs.Lanes.{log_lane}
 use Rattle.gr_node.specs.Seen.{text_of}
 use Rattle.gr_node.specs.Of.{OthersStay}
-use Rattle.gr_node.specs.Lasting.{Lasts}
+use Rattle.gr_node.specs.Lasting.{HoldsBetween, IsFound, Along, HoldsLog, Lasts}
 use Rattle.gr_node.specs.Plan.{Act, binds, starts, settles, shows, ours, act, told_by_acts, acts_from, nodes, plan}
 use Rattle.gr_node.specs.Plan.{all_entries}
 use Rattle.gr_node.specs.Went.{IsExact, FirstIs, uses_disk, fault_entries, Begins}
-use Rattle.gr_node.specs.Starting.{IsFirstDamaged}
+use Rattle.gr_node.specs.Starting.{OpensAsLog, IsFirstDamaged}
 
 -- The course of a run
 pub record Course : Type 0 where
-  pub records : List (List Record)  -- of each publisher, what the lane held where its host has started, else none
+  pub logs : List Log  -- of each publisher, the log that was opened where its host has started, else an empty one
   pub came : List Arrival  -- what the post gave, in order
   pub closed : Bool  -- whether it then said that nothing comes any more
   pub made : List Act  -- what was done of the plan
   pub left : List Act  -- what is left of it; a call that was refused is the first of these
 
--- the machine's world before the first act, and what the acts lead to
+-- the machine's world before the first act, over logs that forget what they cut; and what the acts lead to
 abbrev pub world_before : TopologyView → Course → World
-world_before t c = over_logs (net_of t) (whole_logs c.records)
+world_before t c = over_logs (net_of t) c.logs
 
 abbrev pub end_of : TopologyView → List ℕ → Course → Transition
 end_of t hosted c = in_turn (act (net_of t) hosted) c.made (world_before t c)
@@ -61,7 +59,7 @@ planned t hosted steps c = all_entries t hosted (world_before t c) (plan t hoste
 abbrev pub served_text : TopologyView → List ℕ → List Line → Course → List ℕ
 served_text t hosted steps c =
     text_of t (joined (with_orders (orders_of t)
-    (served (net_of t) hosted (whole_logs c.records) steps (ours hosted c.came))))
+    (served (net_of t) hosted c.logs steps (ours hosted c.came))))
 
 abbrev pub is_bind : Act → Bool
 is_bind (binds b) = true
@@ -84,8 +82,8 @@ IsRefused t run.Write left = Unit {0}
 pub record IsRunOf {T : Type 0} (t : TopologyView) (hosted : List ℕ) (steps : List Line) (turns : ℕ) (c : Course)
     (result : Result T RunFault) : Type 0 where
   pub acts : c.made ++ c.left ≡ plan t hosted steps c.came c.closed
-  pub count : length c.records ≡ length t.publishers
-  pub follow : AllFollow t.late c.records
+  pub count : length c.logs ≡ length t.publishers
+  pub opened : AllOpened t.late c.logs
   pub within : length c.came ≤ turns
   pub bytes : AllByRecursion IsOfBytes c.came
   pub whole : OnOk result (c.left ≡ [])
@@ -118,27 +116,54 @@ abbrev pub world_upto : TopologyView → List ℕ → List Line → Course → �
 world_upto t hosted steps c k =
     let s : Transition = in_turn (act (net_of t) hosted) (acts_upto t hosted steps c k) (world_before t c) in s.world
 
--- Nothing that was logged is lost by a crash in the run: once another arrival has come after the first k, the log of
--- each publisher stood with the records that the machine's log had after these, and whatever a crash may have left of
--- its lane at any moment since then is a log that begins with them
+-- Nothing that was logged is lost by a crash in the run: once another arrival has come after the first k, the lanes of
+-- each publisher stood with what the machine's log had after these, and whatever a crash may have left of them at any
+-- moment since then goes on from that
 abbrev pub LogsLast : TopologyView → List ℕ → List Line → Course → (ℕ → Lane) → Type 0
 LogsLast t hosted steps c after = (k : ℕ) → k < length c.came → (p : ℕ) → p < length t.publishers
     → is_hosted (net_of t) hosted p ≡ true
-    → (rs : List Record) × (mid : Lane) × Lasts t.late rs mid (after (log_lane p))
-    × (log_of rs ≡ machine_log_of (world_upto t hosted steps c k) p)
+    → (mid : Lanes) × Lasts t.late (log_of (world_upto t hosted steps c k) p) mid (lanes_at after (log_lane p))
 
--- Of a disk that tells what it holds: the records are what the lanes of the started brokers held, after a run whose
--- acts are known to be made each lane stands with the records of the machine's log, and no other lane was touched
+-- the machine's log of a publisher after acts of a run
+abbrev pub log_then : TopologyView → List ℕ → Course → List Act → ℕ → Log
+log_then t hosted c acts p =
+    let s : Transition = in_turn (act (net_of t) hosted) acts (world_before t c) in log_of s.world p
+
+-- a pair of images holds what lies between the machine's log after the first acts of the plan and that after one more,
+-- or none
+pub record IsReached (t : TopologyView) (hosted : List ℕ) (steps : List Line) (c : Course) (p : ℕ) (a b : List ℕ)
+    : Type 0 where
+  pub made : List Act
+  pub next : List Act
+  pub left : List Act
+  pub parts : made ++ (next ++ left) ≡ plan t hosted steps c.came c.closed
+  pub one : length next ≤ 1
+  pub holds : HoldsBetween t.late (log_then t hosted c made p) (log_then t hosted c (made ++ next) p) a b
+
+-- What the lanes of a publisher hold at any moment of a run: what was found there, or, where that is a log, what the
+-- plan has reached from it
+abbrev pub IsOfRun : TopologyView → List ℕ → List Line → Course → ℕ → Lanes → List ℕ → List ℕ → Type 0
+IsOfRun t hosted steps c p found a b = IsFound t.late found a b
+    ⊎ (OpensAsLog t.late (log_lane p) found (get_or c.logs p empty_log) × IsReached t hosted steps c p a b)
+
+abbrev pub RunsAlong : TopologyView → List ℕ → List Line → Course → (ℕ → Lane) → (ℕ → Lane) → Type 0
+RunsAlong t hosted steps c before after = (p : ℕ) → p < length t.publishers → is_hosted (net_of t) hosted p ≡ true
+    → (parts : List Lanes) × Along (IsOfRun t hosted steps c p (lanes_at before (log_lane p)))
+    (lanes_at before (log_lane p)) parts (lanes_at after (log_lane p))
+
+-- Of a disk that tells what it holds: the logs are what the lanes of the started brokers held. After a run whose acts
+-- are known to be made the lanes of each publisher stand with the machine's log. At every answer they hold what was
+-- found, or what the plan has reached, and no other lane was touched: nothing is erased, written over or invented
 pub record KeepsLogs {T : Type 0} (t : TopologyView) (hosted : List ℕ) (steps : List Line) (c : Course)
     (before after : ℕ → Lane) (result : Result T RunFault) : Type 0 where
   pub found : (p : ℕ) → p < length t.publishers → is_hosted (net_of t) hosted p ≡ true
       → list_any (is_start (host_of t p)) c.made ≡ true
-      → log_text t.late (content (before (log_lane p))) ≡ Ok (get_or c.records p [])
+      → OpensAsLog t.late (log_lane p) (lanes_at before (log_lane p)) (get_or c.logs p empty_log)
   pub kept : IsExact result → (c.left ≡ []) ⊎ (c.left ≡ shows ∷ []) → (p : ℕ) → p < length t.publishers
       → is_hosted (net_of t) hosted p ≡ true
-      → (rs : List Record) × Stands (after (log_lane p)) t.late rs
-      × (log_of rs ≡ machine_log_of (end_of t hosted c).world p)
+      → HoldsLog t.late (lanes_at after (log_lane p)) (log_of (end_of t hosted c).world p)
   pub since : LogsLast t hosted steps c after
+  pub along : RunsAlong t hosted steps c before after
   pub damaged : (p at : ℕ) → result ≡ Err (run.Damaged p at) → IsFirstDamaged t hosted p at before
   pub others : OthersStay t hosted before after
 

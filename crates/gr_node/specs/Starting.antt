@@ -7,20 +7,22 @@ use Rattle.gr_out.specs.declared.fault.RunFault.TheVariants as run
 use Rattle.gr_out.specs.Journal.{is_among}
 use Rattle.gr_out.specs.Lane.{Lane, content}
 use Rattle.gr_out.specs.Page.{TakesBut, TakesFront}
-use Rattle.gr_publog.specs.State.{first_standing, Follow}
-use Rattle.gr_publog.specs.Text.{log_text}
-use Rattle.gr_publog.specs.Crash.{LogView}
+use Rattle.gr_publog.specs.State.{IsState}
+use Rattle.gr_publog.specs.Views.{LogView, Lanes, lanes_at}
+use Rattle.gr_publog.specs.Opens.{OpensAs}
+use Rattle.gr_pubend.specs.Log.{said}
 use Rattle.gr_topo.specs.Topology.{TopologyView, host_of}
 use Rattle.gr_model.specs.declared.report.Report.{Report}
 use Rattle.gr_model.specs.Net.{numbers}
 use Rattle.gr_model.specs.NetOf.{net_of}
+use Rattle.gr_model.specs.Broker.{Log}
 use Rattle.gr_model.specs.Arrivals.{is_hosted}
 use Rattle.gr_model.specs.Orders.{fed, orders_of}
 use Rattle.gr_broker.specs.Lanes.{log_lane}
 use Rattle.gr_broker.specs.Seen.{BrokerView, view_in, log_in, machine_log}
 use Rattle.gr_broker.specs.Of.{IsBrokerOf}
-use Rattle.gr_broker.specs.Opened.{opened_at}
-use Rattle.gr_node.specs.Seen.{NodeView, broker_in, records_in, text_of}
+use Rattle.gr_broker.specs.Opened.{opened_at, found_at}
+use Rattle.gr_node.specs.Seen.{NodeView, broker_in, log_here, text_of}
 use Rattle.gr_node.specs.Of.{Hosts}
 use Rattle.gr_node.specs.Went.{Outside, IsExact}
 
@@ -42,7 +44,7 @@ pub record HasStarted (t : TopologyView) (n : NodeView) (b : ℕ) : Type 0 where
   pub views : (p : ℕ) → p < length t.publishers
       → view_in broker p ≡ (opened_at (net_of t) p b (machine_log broker p)).view
   pub whole : (p : ℕ) (l : LogView) → log_in broker p ≡ Some l → l.broken ≡ false
-  pub follow : (p : ℕ) (l : LogView) → log_in broker p ≡ Some l → Follow (first_standing l.late) l.records
+  pub states : (p : ℕ) (l : LogView) → log_in broker p ≡ Some l → IsState l.state
 
 -- The first so many of the hosted brokers have started, and no others, and what they tell was heard and put; after a
 -- fault a front of it
@@ -61,17 +63,22 @@ pub record Started {T : Type 0} (t : TopologyView) (hosted : List ℕ) (n' : Nod
   pub front : OnErr result
       (TakesFront before.taken after.taken (before.held ++ text_of t (flat_map (start_lines t n') (take made hosted))))
 
--- the lanes of the publishers at these brokers read as their logs
+-- the two lanes from one on hold a log that is opened as this one, where these subscribers may join
+abbrev pub OpensAsLog : List ℕ → ℕ → Lanes → Log → Type 0
+OpensAsLog late lane ls log = (l : LogView) × OpensAs late lane (content ls.first) (content ls.second) (Ok l)
+    × (said l ≡ log)
+
+-- so do those of each publisher at these brokers, as its log
 abbrev pub Found : TopologyView → NodeView → List ℕ → (ℕ → Lane) → Type 0
 Found t n' bs lanes = (p : ℕ) → p < length t.publishers → is_among bs (host_of t p) ≡ true
-    → log_text t.late (content (lanes (log_lane p))) ≡ Ok (records_in t n' p)
+    → OpensAsLog t.late (log_lane p) (lanes_at lanes (log_lane p)) (log_here t n' p)
 
--- The lane of a publisher holds no log, with the place of its first fault; those that are opened before it hold one:
+-- The lanes of a publisher hold no log, with the place of the first fault; those that are opened before it hold one:
 -- broker by broker, and at each its publishers in order
 pub record IsFirstDamaged (t : TopologyView) (hosted : List ℕ) (p at : ℕ) (lanes : ℕ → Lane) : Type 0 where
   pub publisher : p < length t.publishers
   pub here : is_hosted (net_of t) hosted p ≡ true
-  pub fault : log_text t.late (content (lanes (log_lane p))) ≡ Err at
+  pub fault : found_at t lanes p ≡ Err at
   pub before : (q : ℕ) → q < length t.publishers → is_hosted (net_of t) hosted q ≡ true
       → (host_of t q < host_of t p) ⊎ ((host_of t q ≡ host_of t p) × (q < p))
-      → IsOk (log_text t.late (content (lanes (log_lane q))))
+      → IsOk (found_at t lanes q)

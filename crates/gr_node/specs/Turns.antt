@@ -3,6 +3,7 @@ use Rattle.std.specs.Prelude.{◌≡◌, ◌≢◌, ℕ, ◌≤◌, Bool, true, 
 use Rattle.std.specs.Prelude.{OnOk}
 use Rattle.std.specs.List.{AllByRecursion}
 use Rattle.gr_out.specs.declared.fault.RunFault.{RunFault}
+use Rattle.gr_out.specs.Lane.{Lane}
 use Rattle.gr_topo.specs.Topology.{TopologyView}
 use Rattle.gr_sched.specs.declared.step.Line.{Line}
 use Rattle.gr_model.specs.Net.{Net}
@@ -12,6 +13,7 @@ use Rattle.gr_model_theorems.specs.Served.{IsOfBytes}
 use Rattle.gr_node.specs.Seen.{NodeView}
 use Rattle.gr_node.specs.Plan.{acts_from, closing}
 use Rattle.gr_node.specs.Went.{Outside, Went}
+use Rattle.gr_node.specs.Lasting.{ActsKeep}
 
 -- the first of these steps, where there is one, is a request to be carried out here
 abbrev pub IsFirst : Net → List ℕ → List Line → Type 0
@@ -30,9 +32,9 @@ CameIn (Ok true) came shut = (length came ≡ 1) × (shut ≡ false)
 CameIn (Ok false) came shut = (came ≡ []) × (shut ≡ true)
 CameIn (Err e) came shut = (length came ≤ 1) × (shut ≡ false)
 
--- A turn: what came, its acts as far as they were made, and the requests that are left then
-pub record Turned (t : TopologyView) (hosted : List ℕ) (tells : Type 0) (steps : List Line) (next next' : ℕ)
-    (n n' : NodeView) (before after : Outside) (result : Result Bool RunFault) : Type 0 where
+-- A turn: what came, its acts as far as they were made, what they did to the lanes, and the requests that are left then
+pub record Turned (t : TopologyView) (hosted : List ℕ) (tells keeps : Type 0) (steps : List Line) (next next' : ℕ)
+    (n n' : NodeView) (before after : Outside) (lanes lanes' : ℕ → Lane) (result : Result Bool RunFault) : Type 0 where
   pub came : List Arrival
   pub shut : Bool
   pub ends : CameIn result came shut
@@ -40,5 +42,7 @@ pub record Turned (t : TopologyView) (hosted : List ℕ) (tells : Type 0) (steps
   pub went : Went t hosted tells
       (acts_from (net_of t) hosted (requests_of (net_of t) hosted (drop next steps)) came ++ closing shut)
       n n' before after result
+  pub kept : keeps → ActsKeep t hosted n
+      (acts_from (net_of t) hosted (requests_of (net_of t) hosted (drop next steps)) came ++ closing shut) lanes lanes'
   pub left : OnOk result (requests_of (net_of t) hosted (drop next' steps)
       ≡ left_behind (requests_of (net_of t) hosted (drop next steps)) came)

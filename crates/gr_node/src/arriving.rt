@@ -1,15 +1,14 @@
 //! One arrival is taken, with all that it causes.
 
-ghost use Rattle.std.specs.Prelude.{◌≡◌, ℕ, ◌≤◌, true, false, min, List, [], ◌∷◌, ◌++◌, length, map, drop, Err};
+ghost use Rattle.std.specs.Prelude.{◌≡◌, ◌≤◌, true, false, min, List, [], ◌∷◌, ◌++◌, length, map, drop, Err};
 ghost use Rattle.std.specs.Prelude.{IfOk, IfErr, OnOk, IsErrOf};
 ghost use Rattle.gr_out.specs.Journal.{next_entries, Fits, CountsFailed};
-ghost use Rattle.gr_out.specs.Lane.{Lane};
 ghost use Rattle.gr_model.specs.Broker.{max_tick};
 ghost use Rattle.gr_model.specs.NetOf.{net_of};
 ghost use Rattle.gr_model.specs.Arrivals.{datagram, quiet, Request, requests_of};
 ghost use Rattle.gr_model_theorems.specs.Served.{IsOfBytes};
 ghost use Rattle.gr_node.specs.Seen.{seen};
-ghost use Rattle.gr_node.specs.Lasting.{AllKeep};
+ghost use Rattle.gr_node.specs.Lasting.{ActsKeep};
 ghost use Rattle.gr_node.specs.Keeps.{IsServing, IsAsked, TurnKeeps, RunKeeps, LeavesEmpty};
 ghost use Rattle.gr_node.specs.Plan.{calls, settles, led_to, quiet_calls};
 ghost use Rattle.gr_node.specs.Done.{at_arrival};
@@ -36,7 +35,7 @@ fn last_tick(moment: u64) -> u64
 
 /// A datagram that has come is taken at its broker, and then what is ready in one order is told; one that is for a
 /// broker elsewhere is passed over. Then the page is flushed.
-fn datagram_comes<D: Disk, P: Post, K: Sink>(
+pub fn datagram_comes<D: Disk, P: Post, K: Sink>(
     site: &Site<'_>,
     node: &mut Node,
     b: u16,
@@ -57,6 +56,10 @@ fn datagram_comes<D: Disk, P: Post, K: Sink>(
     ensures emptied { LeavesEmpty page.new.held result }
     ensures serving { OnOk result
         (IsServing site.now.topo.now site.now.hosted.now D.tells (D.lane_of disk.new) (seen node.new)) }
+    ensures kept { D.tells → (left : List Request) → ActsKeep site.now.topo.now site.now.hosted.now
+        (at_arrival site.now.hosted.now (seen node.old) (datagram b bytes.now moment))
+        (led_to (net_of site.now.topo.now) site.now.hosted.now left (datagram b bytes.now moment))
+        (D.lane_of disk.old) (D.lane_of disk.new) }
     ensures keeps { TurnKeeps site.now.topo.now site.now.hosted.now D.tells D.lane_of D.faults D.stops disk.old disk.new
         (K.faults sink.old) (K.faults sink.new) (P.faults post.old) (P.faults post.new) result }
     ensures cause { IfErr result IsTurnFault }
@@ -72,7 +75,7 @@ fn datagram_comes<D: Disk, P: Post, K: Sink>(
 }
 
 /// A quiet moment that has come. Then what is ready in one order is told, and the page is flushed.
-fn quiet_comes<D: Disk, P: Post, K: Sink>(
+pub fn quiet_comes<D: Disk, P: Post, K: Sink>(
     site: &Site<'_>,
     node: &mut Node,
     steps: &[Line],
@@ -95,6 +98,11 @@ fn quiet_comes<D: Disk, P: Post, K: Sink>(
     ensures emptied { LeavesEmpty page.new.held result }
     ensures serving { OnOk result
         (IsServing site.now.topo.now site.now.hosted.now D.tells (D.lane_of disk.new) (seen node.new)) }
+    ensures kept { D.tells → ActsKeep site.now.topo.now site.now.hosted.now
+        (at_arrival site.now.hosted.now (seen node.old) (quiet moment))
+        (map calls (quiet_calls (net_of site.now.topo.now) site.now.hosted.now (requests_of
+        (net_of site.now.topo.now) site.now.hosted.now (drop next steps.now))) ++ settles ∷ [])
+        (D.lane_of disk.old) (D.lane_of disk.new) }
     ensures keeps { TurnKeeps site.now.topo.now site.now.hosted.now D.tells D.lane_of D.faults D.stops disk.old disk.new
         (K.faults sink.old) (K.faults sink.new) (P.faults post.old) (P.faults post.new) result }
     ensures cause { IfErr result IsTurnFault }
@@ -107,7 +115,7 @@ fn quiet_comes<D: Disk, P: Post, K: Sink>(
 }
 
 /// What comes next. The post learns whether there is more to do at a quiet moment.
-fn await_next<P: Paced>(
+pub fn await_next<P: Paced>(
     post: &mut P,
     has_more: bool,
     piece: &mut [u8],
@@ -140,9 +148,10 @@ pub(crate) fn turn<D: Disk, P: Paced, K: Sink>(
     requires first { IsFirst (net_of site.now.topo.now) site.now.hosted.now (drop next.old steps.now) }
     requires piece { length piece.old ≡ 65535 }
     ensures piece { length piece.new ≡ 65535 }
-    ensures turned { Turned site.now.topo.now site.now.hosted.now P.tells steps.now next.old next.new
+    ensures turned { Turned site.now.topo.now site.now.hosted.now P.tells D.tells steps.now next.old next.new
         (seen node.old) (seen node.new) (outside (K.taken sink.old) page.old.held (P.journal post.old))
-        (outside (K.taken sink.new) page.new.held (P.journal post.new)) result }
+        (outside (K.taken sink.new) page.new.held (P.journal post.new))
+        (D.lane_of disk.old) (D.lane_of disk.new) result }
     ensures within { OnOk result (next.new ≤ length steps.now) }
     ensures first { OnOk result (IsFirst (net_of site.now.topo.now) site.now.hosted.now (drop next.new steps.now)) }
     ensures emptied { IfOk result (λ goes_on. goes_on ≡ true → page.new.held ≡ []) }
@@ -152,8 +161,6 @@ pub(crate) fn turn<D: Disk, P: Paced, K: Sink>(
         → IsServing site.now.topo.now site.now.hosted.now D.tells (D.lane_of disk.new) (seen node.new) }
     ensures serving { OnOk result
         (IsServing site.now.topo.now site.now.hosted.now D.tells (D.lane_of disk.new) (seen node.new)) }
-    ensures lanes_keep { let late = site.now.topo.now.late in D.tells → (l : ℕ → Lane)
-        → AllKeep late l (D.lane_of disk.old) → AllKeep late l (D.lane_of disk.new) }
     ensures keeps { RunKeeps site.now.topo.now site.now.hosted.now D.tells D.lane_of D.faults D.stops disk.old disk.new
         (K.faults sink.old) (K.faults sink.new) (P.faults post.old) (P.faults post.new) result }
 {

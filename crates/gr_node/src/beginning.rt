@@ -4,13 +4,15 @@ ghost use Rattle.std.specs.Prelude.{◌≡◌, ◌≢◌, ℕ, ◌<◌, true, le
 ghost use Rattle.gr_topo.specs.Topology.{host_of};
 ghost use Rattle.gr_model.specs.Net.{is_host};
 ghost use Rattle.gr_model.specs.NetOf.{net_of};
+ghost use Rattle.gr_publog.specs.Views.{AwayFrom};
 ghost use Rattle.gr_broker.specs.Lanes.{log_lane};
 ghost use Rattle.gr_broker.specs.Of.{IsBrokerOf, LogsStand};
 ghost use Rattle.gr_broker.specs.Opened.{OpensLanes, IsDamagedAt};
 ghost use Rattle.gr_report.specs.Named.{AllNamed};
 ghost use Rattle.gr_node.specs.Went.{DiskMoves};
+ghost use Rattle.gr_node.specs.Lasting.{StartsKeep};
 ghost use Rattle.gr_node.specs.Starting.{lines_of_start};
-ghost use Rattle.gr_node.specs.Begun.{HasBegun, IsStartFault, LogsFollow, start_fault};
+ghost use Rattle.gr_node.specs.Begun.{HasBegun, IsStartFault, HoldStates, start_fault};
 
 use crate::node::Site;
 use gr_broker::{Broker, BrokerFault, Started};
@@ -18,11 +20,11 @@ use gr_model::topologies::every_topology_is_a_tree;
 use gr_out::{Disk, RunFault};
 use gr_topo::Topology;
 
-/// The records of each log of a broker follow one another. The function changes nothing: its contract is the fact.
-fn logs_follow(topo: &Topology, broker: &Broker, b: u16)
+/// What each log of a broker holds is a state. The function changes nothing: its contract is the fact.
+fn hold_states(topo: &Topology, broker: &Broker, b: u16)
     requires fits { IsBrokerOf topo.now broker.now }
     requires number { broker.now.number ≡ b }
-    ensures { LogsFollow broker.now }
+    ensures { HoldStates broker.now }
 {
     'publishers: for p in 0..topo.publishers() {
         if topo.host(p) == b {
@@ -46,7 +48,7 @@ fn run_fault(fault: BrokerFault) -> RunFault
 
 /// Starts a broker over the logs that its lanes hold, and answers it with what that tells.
 ///
-/// `Damaged` names the first publisher at it whose lane holds no log, and `Disk` comes only where the disk failed in
+/// `Damaged` names the first publisher at it whose lanes hold no log, and `Disk` comes only where the disk failed in
 /// this call; `Memory` where memory is refused.
 pub(crate) fn start_one<D: Disk>(site: &Site<'_>, b: u16, disk: &mut D) -> Result<Started, RunFault>
     requires { b < length site.now.topo.now.brokers }
@@ -58,8 +60,10 @@ pub(crate) fn start_one<D: Disk>(site: &Site<'_>, b: u16, disk: &mut D) -> Resul
     ensures stands { D.tells → IfOk result (λ s. LogsStand (D.lane_of disk.new) s.broker) }
     // The lanes of publishers that are elsewhere stay as they are
     ensures others { D.tells → (n : ℕ) → ((p : ℕ) → p < length site.now.topo.now.publishers
-        → is_host (net_of site.now.topo.now) p b ≡ true → n ≢ log_lane p)
+        → is_host (net_of site.now.topo.now) p b ≡ true → AwayFrom (log_lane p) n)
         → D.lane_of disk.new n ≡ D.lane_of disk.old n }
+    // At every moment they hold what they held before
+    ensures kept { D.tells → StartsKeep site.now.topo.now.late (D.lane_of disk.old) (D.lane_of disk.new) }
     ensures damaged { D.tells → (p at : ℕ) → result ≡ Err (RunFault.Damaged p at)
         → IsDamagedAt site.now.topo.now b p at (D.lane_of disk.old) }
     ensures damaged_here { (p at : ℕ) → result ≡ Err (RunFault.Damaged p at)
@@ -70,7 +74,7 @@ pub(crate) fn start_one<D: Disk>(site: &Site<'_>, b: u16, disk: &mut D) -> Resul
     match Broker::start(site.alloc, site.topo, b, disk) {
         Ok(started) => {
             every_topology_is_a_tree(site.topo);
-            logs_follow(site.topo, &started.broker, b);
+            hold_states(site.topo, &started.broker, b);
             Ok(started)
         }
         Err(fault) => Err(run_fault(fault)),

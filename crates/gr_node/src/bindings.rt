@@ -15,7 +15,7 @@ use gr_out::{Post, PostFault, RunFault};
 use gr_topo::Topology;
 
 /// Whether a broker is among those that are to be hosted.
-pub(crate) fn is_among(hosted: &[u16], b: u16) -> bool
+pub fn is_among(hosted: &[u16], b: u16) -> bool
     ensures { result ≡ is_among hosted.now b }
 {
     hosted.contains(&b)
@@ -136,7 +136,7 @@ fn bind_clients<P: Post>(site: &Site<'_>, post: &mut P) -> Result<(), RunFault>
 /// publishers at hosted brokers.
 ///
 /// `Post` only where a binding failed, and `Memory` where memory is refused; those before are bound then.
-pub(crate) fn bind_all<P: Post>(site: &Site<'_>, post: &mut P) -> Result<(), RunFault>
+pub fn bind_all<P: Post>(site: &Site<'_>, post: &mut P) -> Result<(), RunFault>
     requires addressed { AreAddressed site.now.topo.now }
     ensures cause { IfErr result IsPostFault }
     ensures moves { PostMoves (P.faults post.old) (P.faults post.new) result }

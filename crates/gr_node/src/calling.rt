@@ -9,7 +9,7 @@ ghost use Rattle.gr_topo.specs.Topology.{host_of, late_of};
 ghost use Rattle.gr_broker.specs.Told.{log_answer};
 ghost use Rattle.gr_node.specs.Seen.{seen, broker_in};
 ghost use Rattle.gr_node.specs.Of.{NodeFits, AllStand, OthersStay};
-ghost use Rattle.gr_node.specs.Lasting.{AllKeep};
+ghost use Rattle.gr_node.specs.Lasting.{CallKeeps};
 ghost use Rattle.gr_node.specs.Plan.{gets, publishes, joins, wakes};
 ghost use Rattle.gr_node.specs.Went.{Makes, DiskMoves, IsCallFault};
 ghost use Rattle.gr_node.specs.Calling.{Follows, FollowsReceipt, line_of_drop};
@@ -170,8 +170,8 @@ impl Node {
         ensures stands { D.tells → OnOk result (AllStand (D.lane_of disk.new) (seen self.new)) }
         ensures others { D.tells
             → OthersStay topo.now (host_of topo.now p ∷ []) (D.lane_of disk.old) (D.lane_of disk.new) }
-        ensures keeps { let late = topo.now.late in D.tells → (l : ℕ → Lane)
-            → AllKeep late l (D.lane_of disk.old) → AllKeep late l (D.lane_of disk.new) }
+        ensures kept { D.tells → CallKeeps topo.now (seen self.old) (publishes (p, (number, event.now)))
+            (D.lane_of disk.old) (D.lane_of disk.new) }
     {
         // Proof only: what is sent goes over edges, and each line has its names.
         every_topology_is_a_tree(topo);
@@ -203,8 +203,8 @@ impl Node {
         ensures stands { D.tells → OnOk result (AllStand (D.lane_of disk.new) (seen self.new)) }
         ensures others { D.tells
             → OthersStay topo.now (host_of topo.now p ∷ []) (D.lane_of disk.old) (D.lane_of disk.new) }
-        ensures keeps { let late = topo.now.late in D.tells → (l : ℕ → Lane)
-            → AllKeep late l (D.lane_of disk.old) → AllKeep late l (D.lane_of disk.new) }
+        ensures kept { D.tells → CallKeeps topo.now (seen self.old) (joins s p)
+            (D.lane_of disk.old) (D.lane_of disk.new) }
     {
         // Proof only: what is sent goes over edges, and each line has its names.
         every_topology_is_a_tree(topo);
@@ -234,8 +234,8 @@ impl Node {
         ensures disk { DiskMoves (D.faults disk.old) (D.stops disk.old) (D.faults disk.new) (D.stops disk.new) result }
         ensures stands { D.tells → OnOk result (AllStand (D.lane_of disk.new) (seen self.new)) }
         ensures others { D.tells → OthersStay topo.now (b ∷ []) (D.lane_of disk.old) (D.lane_of disk.new) }
-        ensures keeps { let late = topo.now.late in D.tells → (l : ℕ → Lane)
-            → AllKeep late l (D.lane_of disk.old) → AllKeep late l (D.lane_of disk.new) }
+        ensures kept { D.tells → CallKeeps topo.now (seen self.old) (wakes b p)
+            (D.lane_of disk.old) (D.lane_of disk.new) }
     {
         // Proof only: what is sent goes over edges, and each line has its names.
         every_topology_is_a_tree(topo);

@@ -1,14 +1,11 @@
 //! What follows of every run. Each function here does nothing: its contract is the law.
 
 ghost use Rattle.std.specs.Prelude.{◌≡◌, ◌↔◌, ℕ, suc, ◌<◌, ◌≤◌, ◌^◌, Bool, true};
-ghost use Rattle.std.specs.Prelude.{List, [], length, map, take, drop, Ok};
+ghost use Rattle.std.specs.Prelude.{List, [], length, map, take, drop};
 ghost use Rattle.std.specs.List.{list_any, AllByRecursion};
 ghost use Rattle.gr_event.specs.declared.event.Event.{Event};
 ghost use Rattle.gr_note.specs.declared.note.Note.TheVariants.{Spent};
-ghost use Rattle.gr_out.specs.Lane.{Lane, moment, LeftSince};
-ghost use Rattle.gr_publog.specs.declared.record.Record.{Record};
-ghost use Rattle.gr_publog.specs.Text.{log_text};
-ghost use Rattle.gr_pubend.specs.Log.{log_of as log_made};
+ghost use Rattle.gr_publog.specs.Views.{Lanes, MayLeavePair};
 ghost use Rattle.gr_pubend.specs.Answers.{published};
 ghost use Rattle.gr_pubend.specs.declared.answers.Published.TheVariants.{Exhausted};
 ghost use Rattle.gr_sched.specs.declared.step.Line.{Line};
@@ -20,17 +17,20 @@ ghost use Rattle.gr_model.specs.Opening.{over_logs, opening};
 ghost use Rattle.gr_model.specs.Arrivals.{Arrival, Publish, requests_of, served, arrived};
 ghost use Rattle.gr_scenario.specs.Steps.{AreStepsOf};
 ghost use Rattle.gr_model_theorems.specs.Served.{joined, IsOfBytes};
-ghost use Rattle.gr_model_theorems.specs.Lanes.{AllFollow, HoldsServedLanes, found_logs};
+ghost use Rattle.gr_model_theorems.specs.Forgets.{AllOpened, kept_logs};
+ghost use Rattle.gr_model_theorems.specs.Lanes.{HoldsServedLanes};
 ghost use Rattle.gr_model_theorems.specs.Statements.{ArrivalsDoSteps, AreTotals};
 ghost use Rattle.gr_model_theorems.specs.OrderedServed.{OrderedServedLanes, OneOrderServedLanes};
 ghost use Rattle.gr_node.specs.Plan.{Act, ours, act, plan, all_entries, reply_to};
-ghost use Rattle.gr_node.specs.Lasting.{Lasts};
+ghost use Rattle.gr_node.specs.Lasting.{Along, Lasts};
 ghost use Rattle.gr_node.specs.Served.{Course, world_before, acts_upto, world_upto, planned, IsHonestJournal};
-ghost use Rattle.gr_node.specs.Submitted.{IsFirstOf, Logs, log_found, after_acts, AreFirst, IsOfClient, offers_next};
+ghost use Rattle.gr_node.specs.Submitted.{IsFirstOf, Logs, log_found, after_acts, AreFirst, IsOfClient};
+ghost use Rattle.gr_node.specs.Submitted.{offers_next, HasNumbers};
 
 use gr_model::topologies::every_topology_is_a_tree;
 use gr_model_theorems::theorems::{
-    headline_over_lanes, headline_served, one_order_over_lanes, ordered_over_lanes,
+    forgets_the_same, headline_over_lanes, headline_served, one_order_over_lanes,
+    ordered_over_lanes,
 };
 use gr_report::steps_fit_the_theorems;
 use gr_topo::Topology;
@@ -44,22 +44,22 @@ use gr_topo::Topology;
 /// And of any run: the plan's acts, one after another, tell what the machine serves of what came at the hosted brokers,
 /// and leave the world after it.
 pub fn an_honest_journal_meets_the_headline(topo: &Topology)
-    ensures headline { (steps : List Line) (c : Course) → AreStepsOf topo.now steps → AllFollow topo.now.late c.records
+    ensures headline { (steps : List Line) (c : Course) → AreStepsOf topo.now steps → AllOpened topo.now.late c.logs
         → AllByRecursion IsOfBytes c.came
         → IsHonestJournal [] (planned topo.now (numbers (length topo.now.brokers)) steps c)
-        → HoldsServedLanes (net_of topo.now) c.records steps (ours (numbers (length topo.now.brokers)) c.came) }
-    ensures calls { (steps : List Line) (c : Course) → AreStepsOf topo.now steps → AllFollow topo.now.late c.records
+        → HoldsServedLanes (net_of topo.now) c.logs steps (ours (numbers (length topo.now.brokers)) c.came) }
+    ensures calls { (steps : List Line) (c : Course) → AreStepsOf topo.now steps → AllOpened topo.now.late c.logs
         → AllByRecursion IsOfBytes c.came
         → IsHonestJournal [] (planned topo.now (numbers (length topo.now.brokers)) steps c)
-        → ArrivalsDoSteps (net_of topo.now) (found_logs c.records) steps
+        → ArrivalsDoSteps (net_of topo.now) (kept_logs c.logs) steps
         (ours (numbers (length topo.now.brokers)) c.came) }
     ensures ordered { (steps : List Line) (c : Course) (totals : List ℕ) → AreStepsOf topo.now steps
-        → AllFollow topo.now.late c.records → AllByRecursion IsOfBytes c.came
+        → AllOpened topo.now.late c.logs → AllByRecursion IsOfBytes c.came
         → IsHonestJournal [] (planned topo.now (numbers (length topo.now.brokers)) steps c)
         → AreTotals (net_of topo.now) totals
         → let came : List Arrival = ours (numbers (length topo.now.brokers)) c.came in
-        OrderedServedLanes (net_of topo.now) totals c.records steps came
-        × OneOrderServedLanes (net_of topo.now) totals c.records steps came }
+        OrderedServedLanes (net_of topo.now) totals c.logs steps came
+        × OneOrderServedLanes (net_of topo.now) totals c.logs steps came }
     ensures whole { (hosted : List ℕ) (steps : List Line) (came : List Arrival) (closed : Bool) (logs : List Log)
         → let net : Net = net_of topo.now in
         let end : Transition =
@@ -74,18 +74,19 @@ pub fn an_honest_journal_meets_the_headline(topo: &Topology)
     headline_served();
     ordered_over_lanes();
     one_order_over_lanes();
+    forgets_the_same();
     let _ = topo.brokers();
 }
 
 /// What the log of a publisher gets in a run, up to any time: the acts that were made until then are the first of the
 /// plan, as all that a run made are.
 ///
-/// Each event that is logged takes the number behind the last, from the last that was found on, and has its line. Where
-/// the publisher has a client, and the notes that come are those of a client over a list of events, the event that is
-/// logged with a number is the one of this number in the list; and the log holds the first events of the list, where it
-/// did so when it was found. Where the journal has offered the client that a number comes next, the log has all numbers
-/// below it from then on. And a client is answered that its publisher is spent exactly where no tick was left for the
-/// event that it submitted.
+/// Each event that is logged takes the number behind the last, from the last that was found on, and has its line; what
+/// is cut the log forgets. Where the publisher has a client, and the notes that come are those of a client over a list
+/// of events, the event that is logged with a number is the one of this number in the list; and the log holds the first
+/// events of the list, where it did so when it was found. Where the journal has offered the client that a number comes
+/// next, the log has all numbers below it from then on. And a client is answered that its publisher is spent exactly
+/// where no tick was left for the event that it submitted.
 pub fn what_is_logged_was_submitted(topo: &Topology)
     ensures numbers { (hosted : List ℕ) (steps : List Line) (c : Course) (done : List Act) (p : ℕ)
         → AreFirst topo.now hosted steps c done → p < length topo.now.publishers
@@ -114,17 +115,16 @@ pub fn what_is_logged_was_submitted(topo: &Topology)
 
 /// What a client was answered is never lost again by a crash in the run. Let the journal have offered it that a number
 /// comes next by the time when the acts of the first arrivals were made, and let the log of the publisher have lasted
-/// since, as the logs of every run do (`since` of `KeepsLogs`). Then whatever a crash may have left of the lane at any
-/// moment since that time is a log that has every number below the one that was offered.
+/// since, as the logs of every run do (`since` of `KeepsLogs`). Then whatever a crash might have left of the lanes at
+/// that time, or may have left at any moment since, is a log that has every number below the one that was offered.
 pub fn what_was_answered_lasts(topo: &Topology)
-    ensures lasts { (hosted : List ℕ) (steps : List Line) (c : Course) (k p n : ℕ) (rs : List Record) (mid after : Lane)
+    ensures lasts { (hosted : List ℕ) (steps : List Line) (c : Course) (k p n : ℕ) (mid after : Lanes)
         → p < length topo.now.publishers → n < 2 ^ 64
         → list_any (offers_next p n) (all_entries topo.now hosted (world_before topo.now c)
         (acts_upto topo.now hosted steps c k)) ≡ true
-        → Lasts topo.now.late rs mid after → log_made rs ≡ log_of (world_upto topo.now hosted steps c k) p
-        → (image : List ℕ) → LeftSince after (moment mid) image
-        → (left : List Record) × (log_text topo.now.late image ≡ Ok left)
-        × (let l : Log = log_made left in n ≤ suc l.last) }
+        → (l : Lasts topo.now.late (log_of (world_upto topo.now hosted steps c k) p) mid after)
+        → ((a b : List ℕ) → MayLeavePair mid a b → HasNumbers topo.now.late n a b)
+        × Along (HasNumbers topo.now.late n) mid l.parts after }
     ensures first { (hosted : List ℕ) (steps : List Line) (c : Course) (k : ℕ)
         → AreFirst topo.now hosted steps c (acts_upto topo.now hosted steps c k) }
 {

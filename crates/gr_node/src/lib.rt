@@ -22,7 +22,13 @@ mod starting;
 mod telling;
 mod turning;
 
+pub use arriving::{await_next, datagram_comes, quiet_comes};
+pub use bindings::{bind_all, is_among};
 pub use law::{
     an_honest_journal_meets_the_headline, what_is_logged_was_submitted, what_was_answered_lasts,
 };
-pub use service::serve;
+pub use node::{Node, Site};
+pub use ordering::settle;
+pub use schedule::{next_after, next_request};
+pub use service::{open_hosted, serve};
+pub use telling::offer;

@@ -2,9 +2,8 @@
 
 ghost use Rattle.std.specs.Prelude.{◌≡◌, ◌<◌, ◌≤◌, true, length, replicate, None, is_some, IfOk};
 ghost use Rattle.gr_note.specs.declared.TheConstants.{MAX_NUMBER};
-ghost use Rattle.gr_pubend.specs.Log.{log_of};
 ghost use Rattle.gr_broker.specs.Seen.{machine_log, IsHosted};
-ghost use Rattle.gr_node.specs.Seen.{seen, broker_in, records_in, none_started};
+ghost use Rattle.gr_node.specs.Seen.{seen, broker_in, log_here, none_started};
 ghost use Rattle.gr_node.specs.Of.{NodeFits};
 
 use gr_broker::Broker;
@@ -15,7 +14,7 @@ use std::alloc::Global;
 
 /// Where a run takes place: the topology, and the brokers that are hosted here in rising order.
 #[derive(Drop)]
-pub(crate) struct Site<'a> {
+pub struct Site<'a> {
     pub alloc: Global,
     pub topo: &'a Topology,
     pub hosted: &'a [u16],
@@ -24,7 +23,7 @@ pub(crate) struct Site<'a> {
 /// The hosted brokers by number, with None where a broker is elsewhere; how many frames they have offered; the moment
 /// of the last arrival, in milliseconds; and the lists of the subscribers that get one over all publishers.
 #[derive(Drop)]
-pub(crate) struct Node {
+pub struct Node {
     pub brokers: Vec<Option<Broker>>,
     pub offers: u64,
     pub now: u64,
@@ -38,7 +37,7 @@ fn last_in(host: &Broker, p: u16) -> u64
     ensures most { result ≤ MAX_NUMBER }
 {
     let log = host.log(p);
-    // Proof only: the records follow one another.
+    // Proof only: what the log holds is a state.
     let _ = log.is_broken();
     log.last()
 }
@@ -56,7 +55,7 @@ fn no_brokers(alloc: Global, brokers: u16) -> Result<Vec<Option<Broker>>, Memory
 
 impl Node {
     /// A node for the brokers of a topology, before any has started.
-    pub(crate) fn new(alloc: Global, topo: &Topology) -> Result<Node, Memory>
+    pub fn new(alloc: Global, topo: &Topology) -> Result<Node, Memory>
         ensures { IfOk result (λ n. seen n ≡ none_started topo.now) }
     {
         let orders = Orders::new(alloc, topo)?;
@@ -87,7 +86,7 @@ impl Node {
     pub(crate) fn last_at(&self, topo: &Topology, p: u16) -> u64
         requires fits { NodeFits topo.now (seen self.now) }
         requires publisher { p < length topo.now.publishers }
-        ensures last { result ≡ (log_of (records_in topo.now (seen self.entry.now) p)).last }
+        ensures last { result ≡ (log_here topo.now (seen self.entry.now) p).last }
         ensures most { result ≤ MAX_NUMBER }
     {
         let host = topo.host(p);

@@ -13,10 +13,10 @@ ghost use Rattle.gr_topo.specs.Topology.{host_of};
 ghost use Rattle.gr_model.specs.NetOf.{net_of};
 ghost use Rattle.gr_model.specs.Text.{labels_of, whole_line};
 ghost use Rattle.gr_model.specs.Arrivals.{takes_notes};
-ghost use Rattle.gr_pubend.specs.Log.{log_of};
-ghost use Rattle.gr_node.specs.Seen.{seen, broker_in, records_in};
+ghost use Rattle.gr_node.specs.Seen.{seen, broker_in, log_here};
 ghost use Rattle.gr_node.specs.Of.{NodeFits};
 ghost use Rattle.gr_node.specs.Keeps.{IsServing, PutKeeps, TurnKeeps};
+ghost use Rattle.gr_node.specs.Lasting.{ActsKeep};
 ghost use Rattle.gr_node.specs.Plan.{publishes, calls, answers, note_acts, datagram_acts, reply_to, reply_entry};
 ghost use Rattle.gr_node.specs.Went.{outside, Went, IsTurnFault};
 
@@ -69,7 +69,7 @@ fn answer<P: Post>(
     requires fits { NodeFits site.now.topo.now (seen node.now) }
     requires publisher { p < length site.now.topo.now.publishers }
     ensures sent { (e : Said) → let t = site.now.topo.now in
-        let last : ℕ = (log_of (records_in t (seen node.entry.now) p)).last in P.tells → OnOk result
+        let last : ℕ = (log_here t (seen node.entry.now) p).last in P.tells → OnOk result
         (P.journal post.new ≡ P.journal post.old ++ reply_entry t last (p, (number, e)) ∷ []) }
     ensures unsent { P.tells → OnErr result (P.journal post.new ≡ P.journal post.old) }
     ensures cause { IsOkUnless result RunFault.Memory }
@@ -108,6 +108,9 @@ fn submit<D: Disk, P: Post, K: Sink>(
         (outside (K.taken sink.new) page.new.held (P.journal post.new)) result }
     ensures serving { OnOk result
         (IsServing site.now.topo.now site.now.hosted.now D.tells (D.lane_of disk.new) (seen node.new)) }
+    ensures kept { D.tells → ActsKeep site.now.topo.now site.now.hosted.now (seen node.old)
+        (calls (publishes (p, (number, event.now))) ∷ (answers (p, (number, event.now)) ∷ []))
+        (D.lane_of disk.old) (D.lane_of disk.new) }
     ensures keeps { TurnKeeps site.now.topo.now site.now.hosted.now D.tells D.lane_of D.faults D.stops disk.old disk.new
         (K.faults sink.old) (K.faults sink.new) (P.faults post.old) (P.faults post.new) result }
     ensures cause { IfErr result IsTurnFault }
@@ -185,6 +188,9 @@ fn take_read<D: Disk, P: Post, K: Sink>(
         (outside (K.taken sink.new) page.new.held (P.journal post.new)) result }
     ensures serving { OnOk result
         (IsServing site.now.topo.now site.now.hosted.now D.tells (D.lane_of disk.new) (seen node.new)) }
+    ensures kept { D.tells → ActsKeep site.now.topo.now site.now.hosted.now (seen node.old)
+        (note_acts (net_of site.now.topo.now) b (Ok note.now))
+        (D.lane_of disk.old) (D.lane_of disk.new) }
     ensures keeps { TurnKeeps site.now.topo.now site.now.hosted.now D.tells D.lane_of D.faults D.stops disk.old disk.new
         (K.faults sink.old) (K.faults sink.new) (P.faults post.old) (P.faults post.new) result }
     ensures cause { IfErr result IsTurnFault }
@@ -226,6 +232,9 @@ fn take_note<D: Disk, P: Post, K: Sink>(
         (outside (K.taken sink.new) page.new.held (P.journal post.new)) result }
     ensures serving { OnOk result
         (IsServing site.now.topo.now site.now.hosted.now D.tells (D.lane_of disk.new) (seen node.new)) }
+    ensures kept { D.tells → ActsKeep site.now.topo.now site.now.hosted.now (seen node.old)
+        (note_acts (net_of site.now.topo.now) b (note_decoded bytes.now))
+        (D.lane_of disk.old) (D.lane_of disk.new) }
     ensures keeps { TurnKeeps site.now.topo.now site.now.hosted.now D.tells D.lane_of D.faults D.stops disk.old disk.new
         (K.faults sink.old) (K.faults sink.new) (P.faults post.old) (P.faults post.new) result }
     ensures cause { IfErr result IsTurnFault }
@@ -259,6 +268,9 @@ pub(crate) fn take_datagram<D: Disk, P: Post, K: Sink>(
         (outside (K.taken sink.new) page.new.held (P.journal post.new)) result }
     ensures serving { OnOk result
         (IsServing site.now.topo.now site.now.hosted.now D.tells (D.lane_of disk.new) (seen node.new)) }
+    ensures kept { D.tells → ActsKeep site.now.topo.now site.now.hosted.now (seen node.old)
+        (datagram_acts (net_of site.now.topo.now) b bytes.now)
+        (D.lane_of disk.old) (D.lane_of disk.new) }
     ensures keeps { TurnKeeps site.now.topo.now site.now.hosted.now D.tells D.lane_of D.faults D.stops disk.old disk.new
         (K.faults sink.old) (K.faults sink.new) (P.faults post.old) (P.faults post.new) result }
     ensures cause { IfErr result IsTurnFault }

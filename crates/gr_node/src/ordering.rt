@@ -64,7 +64,7 @@ fn put_ordered<K: Sink>(
 /// Puts what is ready in one order behind all that was told before, and writes the page.
 ///
 /// `Memory` where memory is refused, and `Write` only where the sink failed; a front of the lines is put then.
-pub(crate) fn settle<K: Sink>(
+pub fn settle<K: Sink>(
     site: &Site<'_>,
     node: &mut Node,
     page: &mut Page,

@@ -7,7 +7,7 @@ ghost use Rattle.gr_model.specs.NetOf.{net_of};
 ghost use Rattle.gr_model.specs.Arrivals.{Arrival};
 ghost use Rattle.gr_model_theorems.specs.Served.{IsOfBytes};
 ghost use Rattle.gr_node.specs.Seen.{seen};
-ghost use Rattle.gr_node.specs.Lasting.{StoodEachTime};
+ghost use Rattle.gr_node.specs.Lasting.{ActsKeep, StoodEachTime};
 ghost use Rattle.gr_node.specs.Keeps.{IsServing, CanRun, RunKeeps};
 ghost use Rattle.gr_node.specs.Plan.{turn_acts, run_acts};
 ghost use Rattle.gr_node.specs.Done.{settled};
@@ -54,8 +54,11 @@ fn run_turns<D: Disk, P: Paced, K: Sink>(
         (turn_acts (net_of site.now.topo.now) site.now.hosted.now steps.now came shut)
         (seen node.old) (seen node.new) (outside (K.taken sink.old) page.old.held (P.journal post.old))
         (outside (K.taken sink.new) page.new.held (P.journal post.new)) result
-        × (D.tells → StoodEachTime site.now.topo.now site.now.hosted.now steps.now (seen node.old) came
-        (D.lane_of disk.new))))))) }
+        × ((D.tells → ActsKeep site.now.topo.now site.now.hosted.now (seen node.old)
+        (turn_acts (net_of site.now.topo.now) site.now.hosted.now steps.now came shut)
+        (D.lane_of disk.old) (D.lane_of disk.new))
+        × (D.tells → StoodEachTime site.now.topo.now site.now.hosted.now steps.now (seen node.old) came shut
+        (D.lane_of disk.new)))))))) }
     ensures empty { IsExact result → (result ≢ Err RunFault.Disk) → page.new.held ≡ [] }
     ensures serving { OnOk result
         (IsServing site.now.topo.now site.now.hosted.now D.tells (D.lane_of disk.new) (seen node.new)) }
@@ -106,8 +109,11 @@ pub(crate) fn run<D: Disk, P: Paced, K: Sink>(
         (run_acts (net_of site.now.topo.now) site.now.hosted.now steps.now came shut)
         (seen node.old) (seen node.new) (outside (K.taken sink.old) page.old.held (P.journal post.old))
         (outside (K.taken sink.new) page.new.held (P.journal post.new)) result
+        × ((D.tells → ActsKeep site.now.topo.now site.now.hosted.now (seen node.old)
+        (run_acts (net_of site.now.topo.now) site.now.hosted.now steps.now came shut)
+        (D.lane_of disk.old) (D.lane_of disk.new))
         × (D.tells → StoodEachTime site.now.topo.now site.now.hosted.now steps.now
-        (settled (seen node.old)) came (D.lane_of disk.new))))))) }
+        (settled (seen node.old)) came shut (D.lane_of disk.new)))))))) }
     ensures empty { IsExact result → (result ≢ Err RunFault.Disk) → page.new.held ≡ [] }
     ensures serving { OnOk result
         (IsServing site.now.topo.now site.now.hosted.now D.tells (D.lane_of disk.new) (seen node.new)) }

@@ -44,7 +44,7 @@ fn is_request(site: &Site<'_>, line: &Line) -> bool
 }
 
 /// The place of the next request that is to be carried out here, from a place on; the end where there is none.
-pub(crate) fn next_request(site: &Site<'_>, steps: &[Line], from: usize) -> usize
+pub fn next_request(site: &Site<'_>, steps: &[Line], from: usize) -> usize
     requires steps { AreStepsOf site.now.topo.now steps.now }
     requires from { from ≤ length steps.now }
     ensures within { (from ≤ result) × (result ≤ length steps.now) }
@@ -61,7 +61,7 @@ pub(crate) fn next_request(site: &Site<'_>, steps: &[Line], from: usize) -> usiz
 }
 
 /// The place of the request that is next once a quiet moment has taken the one at a place, where there is one.
-pub(crate) fn next_after(site: &Site<'_>, steps: &[Line], next: usize) -> usize
+pub fn next_after(site: &Site<'_>, steps: &[Line], next: usize) -> usize
     requires steps { AreStepsOf site.now.topo.now steps.now }
     requires within { next ≤ length steps.now }
     requires first { IsFirst (net_of site.now.topo.now) site.now.hosted.now (drop next steps.now) }

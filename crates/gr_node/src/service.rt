@@ -8,6 +8,7 @@ ghost use Rattle.gr_scenario.specs.Steps.{AreStepsOf};
 ghost use Rattle.gr_node.specs.Seen.{seen, broker_in, none_started, text_of};
 ghost use Rattle.gr_node.specs.Of.{AreHosted, AreAddressed, IsSet, AllStand, OthersStay};
 ghost use Rattle.gr_node.specs.Keeps.{IsServing, IsAsked, CanRun, PutKeeps, RunKeeps, LeavesEmpty, IsDamagedHere};
+ghost use Rattle.gr_node.specs.Lasting.{StartsKeep};
 ghost use Rattle.gr_node.specs.Plan.{bound_entry, nodes};
 ghost use Rattle.gr_node.specs.Done.{shown};
 ghost use Rattle.gr_node.specs.Went.{outside, SinkMoves, DiskMoves, PostMoves};
@@ -24,13 +25,14 @@ use crate::starting::start_hosted;
 use gr_broker::frames_pass_the_log;
 use gr_out::{Disk, Page, RunFault, Sink};
 use gr_pace::Paced;
+use gr_publog::law::stands_read;
 use gr_report::put_all;
 use gr_sched::{Line, Steps};
 use gr_topo::Topology;
 use std::alloc::Global;
 
 /// Starts the hosted brokers, and writes what that tells.
-fn open_hosted<D: Disk, K: Sink>(
+pub fn open_hosted<D: Disk, K: Sink>(
     site: &Site<'_>,
     node: &mut Node,
     disk: &mut D,
@@ -52,6 +54,7 @@ fn open_hosted<D: Disk, K: Sink>(
     ensures stands { D.tells → AllStand (D.lane_of disk.new) (seen node.new) }
     ensures others { D.tells
         → OthersStay site.now.topo.now site.now.hosted.now (D.lane_of disk.old) (D.lane_of disk.new) }
+    ensures kept { D.tells → StartsKeep site.now.topo.now.late (D.lane_of disk.old) (D.lane_of disk.new) }
     ensures damaged { D.tells → (p at : ℕ) → result ≡ Err (RunFault.Damaged p at)
         → IsFirstDamaged site.now.topo.now site.now.hosted.now p at (D.lane_of disk.old) }
     ensures damaged_here { IsDamagedHere site.now.topo.now site.now.hosted.now result }
@@ -102,7 +105,8 @@ fn run_and_show<D: Disk, P: Paced, K: Sink>(
     ensures ran { RanWith site.now.topo.now site.now.hosted.now P.tells D.tells steps.now turns
         (seen node.old) (seen node.new)
         (outside (K.taken sink.old) page.old.held (P.journal post.old))
-        (outside (K.taken sink.new) page.new.held (P.journal post.new)) (D.lane_of disk.new) result }
+        (outside (K.taken sink.new) page.new.held (P.journal post.new))
+        (D.lane_of disk.old) (D.lane_of disk.new) result }
     ensures at_post { IsErrOf result RunFault.Post → page.new.held ≡ [] }
     ensures serving { IsEnd result
         → IsServing site.now.topo.now site.now.hosted.now D.tells (D.lane_of disk.new) (seen node.new) }
@@ -131,7 +135,7 @@ fn carry_out<D: Disk, P: Paced, K: Sink>(
     ensures ran { RanWith site.now.topo.now site.now.hosted.now P.tells D.tells steps.now turns
         (seen node.old) (seen node.new)
         (outside (K.taken sink.old) [] (P.journal post.old)) (outside (K.taken sink.new) [] (P.journal post.new))
-        (D.lane_of disk.new) result }
+        (D.lane_of disk.old) (D.lane_of disk.new) result }
     ensures serving { IsEnd result
         → IsServing site.now.topo.now site.now.hosted.now D.tells (D.lane_of disk.new) (seen node.new) }
     ensures keeps { RunKeeps site.now.topo.now site.now.hosted.now D.tells D.lane_of D.faults D.stops disk.old disk.new
@@ -164,7 +168,9 @@ fn serve_with<D: Disk, P: Paced, K: Sink>(
     ensures sink { SinkMoves (K.faults sink.old) (K.faults sink.new) result }
     ensures post { PostMoves (P.faults post.old) (P.faults post.new) result }
 {
-    // Proof only: no log has a part in what is received.
+    // Proof only: the limits of a topology, what stands in lanes, and that no log has a part in what is received.
+    let _ = site.topo.brokers();
+    stands_read();
     frames_pass_the_log();
     match open_hosted(site, node, disk, page, sink) {
         Ok(()) => carry_out(site, node, steps, turns, disk, post, page, sink),
@@ -191,6 +197,8 @@ fn serve_bound<D: Disk, P: Paced, K: Sink>(
     ensures sink { SinkMoves (K.faults sink.old) (K.faults sink.new) result }
     ensures post { PostMoves (P.faults post.old) (P.faults post.new) result }
 {
+    // Proof only: the limits of a topology.
+    let _ = site.topo.brokers();
     let mut node = match Node::new(site.alloc, site.topo) {
         Ok(node) => node,
         Err(_) => return Err(RunFault::Memory),
@@ -213,8 +221,8 @@ fn serve_bound<D: Disk, P: Paced, K: Sink>(
 /// one: what a client submits to its host is published, and once it is logged the host offers the client which number
 /// it waits for; any other note is dropped. What an arrival has caused is written before the next is waited for.
 ///
-/// `Post` only where a binding failed, or the wait for an arrival; `Damaged` where the lane of a publisher at a hosted
-/// broker holds no log: the first such publisher, and the place of the first fault; `Disk` only where the disk failed
+/// `Post` only where a binding failed, or the wait for an arrival; `Damaged` where the lanes of a publisher at a hosted
+/// broker hold no log: the first such publisher, and the place of the first fault; `Disk` only where the disk failed
 /// in this call. After these the lines of all calls before are written, and their frames were offered. `Memory` where
 /// memory is refused, and `Write` only where the sink failed, in place of `Disk` or `Damaged` too: the sink took a
 /// front of the report, and of what was to be offered a front was. A frame that the post could not send is lost, and
@@ -241,6 +249,8 @@ pub fn serve<D: Disk, P: Paced, K: Sink>(
     ensures sink { SinkMoves (K.faults sink.old) (K.faults sink.new) result }
     ensures post { PostMoves (P.faults post.old) (P.faults post.new) result }
 {
+    // Proof only: the limits of a topology.
+    let _ = topo.brokers();
     let site = Site {
         alloc,
         topo,

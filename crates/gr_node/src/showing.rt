@@ -20,7 +20,7 @@ fn log_line(host: &Broker, p: u16) -> Report
     ensures { result ≡ log_shown p (machine_log host.now p) }
 {
     let log = host.log(p);
-    // Proof only: the records follow one another.
+    // Proof only: what it holds is in order.
     let _ = log.is_broken();
     Report::LogOf {
         publisher: p,

@@ -5,6 +5,7 @@ ghost use Rattle.gr_out.specs.Journal.{is_among};
 ghost use Rattle.gr_node.specs.Seen.{seen, broker_in, none_started};
 ghost use Rattle.gr_node.specs.Of.{AreHosted, IsSet, AllStand, OthersStay};
 ghost use Rattle.gr_node.specs.Keeps.{IsDamagedHere};
+ghost use Rattle.gr_node.specs.Lasting.{StartsKeep};
 ghost use Rattle.gr_node.specs.Went.{outside, SinkMoves, DiskMoves};
 ghost use Rattle.gr_node.specs.Starting.{Started, Found, IsFirstDamaged};
 
@@ -16,7 +17,7 @@ use gr_out::{Disk, Page, RunFault, Sink};
 /// Starts the hosted brokers, in order, and puts what that tells, which the subscribers that get one list over all
 /// publishers hear.
 ///
-/// `Damaged` names the first publisher, broker by broker, whose lane holds no log, and `Disk` comes only where the disk
+/// `Damaged` names the first publisher, broker by broker, whose lanes hold no log, and `Disk` comes only where the disk
 /// failed in this call; the lines of the brokers before are put then. `Memory` where memory is refused, and `Write`
 /// only where the sink failed.
 pub(crate) fn start_hosted<D: Disk, K: Sink>(
@@ -42,6 +43,7 @@ pub(crate) fn start_hosted<D: Disk, K: Sink>(
     ensures stands { D.tells → AllStand (D.lane_of disk.new) (seen node.new) }
     ensures others { D.tells
         → OthersStay site.now.topo.now site.now.hosted.now (D.lane_of disk.old) (D.lane_of disk.new) }
+    ensures kept { D.tells → StartsKeep site.now.topo.now.late (D.lane_of disk.old) (D.lane_of disk.new) }
     ensures damaged { D.tells → (p at : ℕ) → result ≡ Err (RunFault.Damaged p at)
         → IsFirstDamaged site.now.topo.now site.now.hosted.now p at (D.lane_of disk.old) }
     ensures damaged_here { IsDamagedHere site.now.topo.now site.now.hosted.now result }

@@ -71,7 +71,7 @@ fn put_sent<K: Sink>(
 }
 
 /// Offers the bytes of a frame or of a note. An offer that fails is a loss.
-pub(crate) fn offer<P: Post>(from: u16, to: u16, bytes: &[u8], post: &mut P) -> Result<(), RunFault>
+pub fn offer<P: Post>(from: u16, to: u16, bytes: &[u8], post: &mut P) -> Result<(), RunFault>
     ensures sent { P.tells → OnOk result (P.journal post.new ≡ P.journal post.old ++ offered from to bytes.now ∷ []) }
     ensures unsent { P.tells → OnErr result (P.journal post.new ≡ P.journal post.old) }
     ensures cause { IsOkUnless result RunFault.Memory }

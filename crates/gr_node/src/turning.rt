@@ -10,6 +10,7 @@ ghost use Rattle.gr_model.specs.Arrivals.{requests_of};
 ghost use Rattle.gr_node.specs.Seen.{seen, broker_in};
 ghost use Rattle.gr_node.specs.Of.{AreHosted, IsSet, AllStand};
 ghost use Rattle.gr_node.specs.Keeps.{IsServing, IsAsked, TellKeeps, TurnKeeps, LeavesEmpty};
+ghost use Rattle.gr_node.specs.Lasting.{ActsKeep};
 ghost use Rattle.gr_node.specs.Plan.{gets, publishes, joins, wakes, calls, request_calls, wake_calls, quiet_calls};
 ghost use Rattle.gr_node.specs.Went.{outside, Went, IsTurnFault};
 ghost use Rattle.gr_node.specs.Turns.{IsFirst};
@@ -75,6 +76,9 @@ pub(crate) fn publish<D: Disk, P: Post, K: Sink>(
         (outside (K.taken sink.new) page.new.held (P.journal post.new)) result }
     ensures serving { OnOk result
         (IsServing site.now.topo.now site.now.hosted.now D.tells (D.lane_of disk.new) (seen node.new)) }
+    ensures kept { D.tells → ActsKeep site.now.topo.now site.now.hosted.now (seen node.old)
+        (calls (publishes (p, (number, event.now))) ∷ [])
+        (D.lane_of disk.old) (D.lane_of disk.new) }
     ensures keeps { TurnKeeps site.now.topo.now site.now.hosted.now D.tells D.lane_of D.faults D.stops disk.old disk.new
         (K.faults sink.old) (K.faults sink.new) (P.faults post.old) (P.faults post.new) result }
     ensures cause { IfErr result IsTurnFault }
@@ -114,6 +118,9 @@ fn join<D: Disk, P: Post, K: Sink>(
         (outside (K.taken sink.new) page.new.held (P.journal post.new)) result }
     ensures serving { OnOk result
         (IsServing site.now.topo.now site.now.hosted.now D.tells (D.lane_of disk.new) (seen node.new)) }
+    ensures kept { D.tells → ActsKeep site.now.topo.now site.now.hosted.now (seen node.old)
+        (calls (joins s p) ∷ [])
+        (D.lane_of disk.old) (D.lane_of disk.new) }
     ensures keeps { TurnKeeps site.now.topo.now site.now.hosted.now D.tells D.lane_of D.faults D.stops disk.old disk.new
         (K.faults sink.old) (K.faults sink.new) (P.faults post.old) (P.faults post.new) result }
     ensures cause { IfErr result IsTurnFault }
@@ -152,6 +159,9 @@ fn wake<D: Disk, P: Post, K: Sink>(
         (outside (K.taken sink.new) page.new.held (P.journal post.new)) result }
     ensures serving { OnOk result
         (IsServing site.now.topo.now site.now.hosted.now D.tells (D.lane_of disk.new) (seen node.new)) }
+    ensures kept { D.tells → ActsKeep site.now.topo.now site.now.hosted.now (seen node.old)
+        (calls (wakes b p) ∷ [])
+        (D.lane_of disk.old) (D.lane_of disk.new) }
     ensures keeps { TurnKeeps site.now.topo.now site.now.hosted.now D.tells D.lane_of D.faults D.stops disk.old disk.new
         (K.faults sink.old) (K.faults sink.new) (P.faults post.old) (P.faults post.new) result }
     ensures cause { IfErr result IsTurnFault }
@@ -189,6 +199,9 @@ fn wake_broker<D: Disk, P: Post, K: Sink>(
         (outside (K.taken sink.new) page.new.held (P.journal post.new)) result }
     ensures serving { OnOk result
         (IsServing site.now.topo.now site.now.hosted.now D.tells (D.lane_of disk.new) (seen node.new)) }
+    ensures kept { D.tells → ActsKeep site.now.topo.now site.now.hosted.now (seen node.old)
+        (map calls (wake_calls (length site.now.topo.now.publishers) b))
+        (D.lane_of disk.old) (D.lane_of disk.new) }
     ensures keeps { TurnKeeps site.now.topo.now site.now.hosted.now D.tells D.lane_of D.faults D.stops disk.old disk.new
         (K.faults sink.old) (K.faults sink.new) (P.faults post.old) (P.faults post.new) result }
     ensures cause { IfErr result IsTurnFault }
@@ -220,6 +233,9 @@ fn wake_hosted<D: Disk, P: Post, K: Sink>(
         (outside (K.taken sink.new) page.new.held (P.journal post.new)) result }
     ensures serving { OnOk result
         (IsServing site.now.topo.now site.now.hosted.now D.tells (D.lane_of disk.new) (seen node.new)) }
+    ensures kept { D.tells → ActsKeep site.now.topo.now site.now.hosted.now (seen node.old)
+        (map calls (flat_map (wake_calls (length site.now.topo.now.publishers)) site.now.hosted.now))
+        (D.lane_of disk.old) (D.lane_of disk.new) }
     ensures keeps { TurnKeeps site.now.topo.now site.now.hosted.now D.tells D.lane_of D.faults D.stops disk.old disk.new
         (K.faults sink.old) (K.faults sink.new) (P.faults post.old) (P.faults post.new) result }
     ensures cause { IfErr result IsTurnFault }
@@ -253,6 +269,9 @@ fn take_request<D: Disk, P: Post, K: Sink>(
         (outside (K.taken sink.new) page.new.held (P.journal post.new)) result }
     ensures serving { OnOk result
         (IsServing site.now.topo.now site.now.hosted.now D.tells (D.lane_of disk.new) (seen node.new)) }
+    ensures kept { D.tells → ActsKeep site.now.topo.now site.now.hosted.now (seen node.old)
+        (map calls (request_calls (requests_of (net_of site.now.topo.now) site.now.hosted.now (drop next steps.now))))
+        (D.lane_of disk.old) (D.lane_of disk.new) }
     ensures keeps { TurnKeeps site.now.topo.now site.now.hosted.now D.tells D.lane_of D.faults D.stops disk.old disk.new
         (K.faults sink.old) (K.faults sink.new) (P.faults post.old) (P.faults post.new) result }
     ensures cause { IfErr result IsTurnFault }
@@ -299,6 +318,9 @@ fn take_written<D: Disk, P: Post, K: Sink>(
     ensures emptied { LeavesEmpty page.new.held result }
     ensures serving { OnOk result
         (IsServing site.now.topo.now site.now.hosted.now D.tells (D.lane_of disk.new) (seen node.new)) }
+    ensures kept { D.tells → ActsKeep site.now.topo.now site.now.hosted.now (seen node.old)
+        (map calls (request_calls (requests_of (net_of site.now.topo.now) site.now.hosted.now (drop next steps.now))))
+        (D.lane_of disk.old) (D.lane_of disk.new) }
     ensures keeps { TurnKeeps site.now.topo.now site.now.hosted.now D.tells D.lane_of D.faults D.stops disk.old disk.new
         (K.faults sink.old) (K.faults sink.new) (P.faults post.old) (P.faults post.new) result }
     ensures cause { IfErr result IsTurnFault }
@@ -331,6 +353,10 @@ pub(crate) fn be_quiet<D: Disk, P: Post, K: Sink>(
         (outside (K.taken sink.new) page.new.held (P.journal post.new)) result }
     ensures serving { OnOk result
         (IsServing site.now.topo.now site.now.hosted.now D.tells (D.lane_of disk.new) (seen node.new)) }
+    ensures kept { D.tells → ActsKeep site.now.topo.now site.now.hosted.now (seen node.old)
+        (map calls (quiet_calls (net_of site.now.topo.now) site.now.hosted.now (requests_of
+        (net_of site.now.topo.now) site.now.hosted.now (drop next steps.now))))
+        (D.lane_of disk.old) (D.lane_of disk.new) }
     ensures keeps { TurnKeeps site.now.topo.now site.now.hosted.now D.tells D.lane_of D.faults D.stops disk.old disk.new
         (K.faults sink.old) (K.faults sink.new) (P.faults post.old) (P.faults post.new) result }
     ensures cause { IfErr result IsTurnFault }

@@ -3,8 +3,9 @@ use Rattle.gr_model.specs.NetOf.{net_of}
 use Rattle.gr_node.specs.Seen.{seen}
 use Rattle.gr_node.specs.Plan.{settles, datagram_acts}
 use Rattle.gr_node.proofs.Keeping.{if_ok, serving_then}
+use Rattle.gr_node.proofs.Lasting.{acts_same}
 use Rattle.gr_node.proofs.Wending.{made_none, all_made, went_cut, went_settled, turn_not_post}
-use Rattle.gr_node.proofs.OneTurn.{went_flushed, went_elsewhere, went_here}
+use Rattle.gr_node.proofs.OneTurn.{went_flushed, went_elsewhere, went_here, kept_here}
 use Rattle.gr_node.proofs.arriving.datagram_comes.Goals as goal
 
 pub settle-requires : goal.settle-requires
@@ -51,3 +52,16 @@ returns-in-Ok-clause-bytes g c = λ i. (c.type_inv.bytes i).fits
 
 pub returns-in-Err-clause-bytes : goal.returns-in-Err-clause-bytes
 returns-in-Err-clause-bytes g c = λ i. (c.type_inv.bytes i).fits
+
+pub returns-then-not-is_among-clause-kept : goal.returns-then-not-is_among-clause-kept
+returns-then-not-is_among-clause-kept g c = λ tells left. acts_same c.args.site.now.topo.now c.args.site.now.hosted.now _ _ (g.D.Disk.lane_of c.args.disk.now)
+
+pub returns-in-Ok-clause-kept : goal.returns-in-Ok-clause-kept
+returns-in-Ok-clause-kept g c = λ tells left.
+    kept_here c.args.site.now.topo.now c.args.site.now.hosted.now c.args.b c.args.bytes.now c.args.moment c.last_tick-node.result left (seen c.args.node.now) (g.D.Disk.lane_of c.args.disk.now) (g.D.Disk.lane_of c.take_datagram.new.disk)
+    (sym c.is_among.ensures ∙ c.if-not-is_among.false) c.last_tick-node.ensures (c.in-Ok.ensures.kept tells)
+
+pub returns-in-Err-clause-kept : goal.returns-in-Err-clause-kept
+returns-in-Err-clause-kept g c = λ tells left.
+    kept_here c.args.site.now.topo.now c.args.site.now.hosted.now c.args.b c.args.bytes.now c.args.moment c.last_tick-node.result left (seen c.args.node.now) (g.D.Disk.lane_of c.args.disk.now) (g.D.Disk.lane_of c.take_datagram.new.disk)
+    (sym c.is_among.ensures ∙ c.if-not-is_among.false) c.last_tick-node.ensures (c.in-Err.ensures.kept tells)

@@ -5,7 +5,7 @@ use Rattle.gr_node.specs.Seen.{seen}
 use Rattle.gr_node.specs.Plan.{calls, settles, quiet_calls}
 use Rattle.gr_node.proofs.Keeping.{serving_then}
 use Rattle.gr_node.proofs.Wending.{all_made, went_cut, went_settled, turn_not_post}
-use Rattle.gr_node.proofs.OneTurn.{went_quiet}
+use Rattle.gr_node.proofs.OneTurn.{went_quiet, kept_quiet}
 use Rattle.gr_node.proofs.arriving.quiet_comes.Goals as goal
 
 pub settle-requires : goal.settle-requires
@@ -33,3 +33,17 @@ returns-in-Err-clause-went g c =
 pub returns-in-Ok-clause-serving : goal.returns-in-Ok-clause-serving
 returns-in-Ok-clause-serving g c =
     serving_then c.args.site.now.topo.now c.args.site.now.hosted.now g.D.Disk.tells (g.D.Disk.lane_of c.be_quiet.new.disk) (seen c.be_quiet.new.node) (seen c.settle.new.node) c.settle.result c.settle.ensures.node c.in-Ok.ensures.serving
+
+pub returns-in-Ok-clause-kept : goal.returns-in-Ok-clause-kept
+returns-in-Ok-clause-kept g c = λ tells.
+    let t = c.args.site.now.topo.now in
+    let hosted = c.args.site.now.hosted.now in
+    kept_quiet t hosted (requests_of (net_of t) hosted (drop c.args.next c.args.steps.now)) c.args.moment c.last_tick-node.result (seen c.args.node.now) (g.D.Disk.lane_of c.args.disk.now) (g.D.Disk.lane_of c.be_quiet.new.disk)
+    c.last_tick-node.ensures (c.in-Ok.ensures.kept tells)
+
+pub returns-in-Err-clause-kept : goal.returns-in-Err-clause-kept
+returns-in-Err-clause-kept g c = λ tells.
+    let t = c.args.site.now.topo.now in
+    let hosted = c.args.site.now.hosted.now in
+    kept_quiet t hosted (requests_of (net_of t) hosted (drop c.args.next c.args.steps.now)) c.args.moment c.last_tick-node.result (seen c.args.node.now) (g.D.Disk.lane_of c.args.disk.now) (g.D.Disk.lane_of c.be_quiet.new.disk)
+    c.last_tick-node.ensures (c.in-Err.ensures.kept tells)

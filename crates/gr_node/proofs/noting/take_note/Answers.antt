@@ -5,6 +5,7 @@ use Rattle.gr_node.specs.Seen.{seen}
 use Rattle.gr_node.specs.Plan.{Act, drops, note_acts}
 use Rattle.gr_node.specs.Went.{outside, Went}
 use Rattle.gr_node.proofs.Keeping.{if_ok}
+use Rattle.gr_node.proofs.Lasting.{acts_same}
 use Rattle.gr_node.proofs.Wending.{went_dropped, went_memory}
 use Rattle.gr_node.proofs.noting.take_note.Goals as goal
 
@@ -27,3 +28,9 @@ returns-clause-went g c =
 
 pub returns-clause-serving : goal.returns-clause-serving
 returns-clause-serving g c = if_ok c.put_line.result c.requires.serving
+
+pub returns-in-Err-clause-kept : goal.returns-in-Err-clause-kept
+returns-in-Err-clause-kept g c = λ tells. acts_same c.args.site.now.topo.now c.args.site.now.hosted.now (seen c.args.node.now) _ (g.D.Disk.lane_of c.args.disk.now)
+
+pub returns-clause-kept : goal.returns-clause-kept
+returns-clause-kept g c = λ tells. acts_same c.args.site.now.topo.now c.args.site.now.hosted.now (seen c.args.node.now) _ (g.D.Disk.lane_of c.args.disk.now)

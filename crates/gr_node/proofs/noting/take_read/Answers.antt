@@ -3,7 +3,9 @@ use Rattle.gr_model.specs.declared.report.Report.TheVariants as line
 use Rattle.gr_model.specs.NetOf.{net_of}
 use Rattle.gr_node.specs.Seen.{seen}
 use Rattle.gr_node.specs.Went.{outside, Went}
+use Rattle.gr_node.specs.Lasting.{ActsKeep}
 use Rattle.gr_node.proofs.Keeping.{if_ok}
+use Rattle.gr_node.proofs.Lasting.{acts_same}
 use Rattle.gr_node.proofs.Wending.{went_dropped, put_fault}
 use Rattle.gr_node.proofs.Notes.{taken_by, taken_in, not_taken, next_dropped, spent_dropped, here_below, here_at}
 use Rattle.gr_node.proofs.noting.take_read.Goals as goal
@@ -80,3 +82,18 @@ returns-in-Spent-clause-serving g c = if_ok c.put_stray-in-Spent.result c.requir
 
 pub returns-in-Spent-clause-cause : goal.returns-in-Spent-clause-cause
 returns-in-Spent-clause-cause g c = put_fault c.put_stray-in-Spent.result c.put_stray-in-Spent.ensures.puts.cause
+
+pub returns-then-takes_notes-clause-kept : goal.returns-then-takes_notes-clause-kept
+returns-then-takes_notes-clause-kept g c = λ tells.
+    let t = c.args.site.now.topo.now in
+    subst (λ acts. ActsKeep t c.args.site.now.hosted.now (seen c.args.node.now) acts (g.D.Disk.lane_of c.args.disk.now) (g.D.Disk.lane_of c.submit.new.disk))
+    (sym (taken_in (net_of t) c.args.b c.in-Submit.publisher _ _ c.args.note.now c.in-Submit.is (sym c.takes_notes.ensures ∙ c.if-takes_notes.true))) (c.submit.ensures.kept tells)
+
+pub returns-else-takes_notes-clause-kept : goal.returns-else-takes_notes-clause-kept
+returns-else-takes_notes-clause-kept g c = λ tells. acts_same c.args.site.now.topo.now c.args.site.now.hosted.now (seen c.args.node.now) _ (g.D.Disk.lane_of c.args.disk.now)
+
+pub returns-in-Next-clause-kept : goal.returns-in-Next-clause-kept
+returns-in-Next-clause-kept g c = λ tells. acts_same c.args.site.now.topo.now c.args.site.now.hosted.now (seen c.args.node.now) _ (g.D.Disk.lane_of c.args.disk.now)
+
+pub returns-in-Spent-clause-kept : goal.returns-in-Spent-clause-kept
+returns-in-Spent-clause-kept g c = λ tells. acts_same c.args.site.now.topo.now c.args.site.now.hosted.now (seen c.args.node.now) _ (g.D.Disk.lane_of c.args.disk.now)

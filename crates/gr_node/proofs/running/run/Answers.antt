@@ -1,12 +1,9 @@
-use Rattle.std.proofs.Common.{Ok, subst}
+use Rattle.std.proofs.Common.{Ok}
 use Rattle.gr_node.specs.Seen.{seen}
-use Rattle.gr_node.specs.Done.{settled}
-use Rattle.gr_node.specs.Lasting.{StoodEachTime}
 use Rattle.gr_node.proofs.Keeping.{serving_then}
-use Rattle.gr_node.proofs.Lasting.{stood_none}
 use Rattle.gr_node.proofs.Wending.{made_settles}
 use Rattle.gr_node.proofs.Ended.{put_unknown}
-use Rattle.gr_node.proofs.SoFar.{ran_settled, ran_unsettled}
+use Rattle.gr_node.proofs.SoFar.{KeptSoFar, KeptRun, kept_settled, kept_unsettled, ran_settled, ran_unsettled}
 use Rattle.gr_node.proofs.running.run.Goals as goal
 
 pub settle-requires : goal.settle-requires
@@ -30,12 +27,13 @@ returns-in-Ok-clause-ran g c =
     let hosted = c.args.site.now.hosted.now in
     let n = seen c.args.node.now in
     let m = seen c.settle.new.node in
+    let first = g.D.Disk.lane_of c.args.disk.now in
     let lanes = g.D.Disk.lane_of c.run_turns.new.disk in
     ran_settled t hosted g.P.Post.tells c.args.steps.now c.args.turns n m (seen c.run_turns.new.node) _ _ _
-    (λ came. g.D.Disk.tells → StoodEachTime t hosted c.args.steps.now m came lanes) (λ came. g.D.Disk.tells → StoodEachTime t hosted c.args.steps.now (settled n) came lanes) c.run_turns.result
+    (KeptSoFar g.D.Disk.tells t hosted c.args.steps.now m first lanes) (KeptRun g.D.Disk.tells t hosted c.args.steps.now n first lanes) c.run_turns.result
     (made_settles t hosted g.P.Post.tells n m (g.K.Sink.taken c.args.sink.now) (g.K.Sink.taken c.settle.new.sink) c.args.page.now.held c.settle.new.page.held (g.P.Post.journal c.args.post.now)
     c.in-Ok.ensures.node c.in-Ok.ensures.told c.in-Ok.ensures.emptied)
-    (λ came h tells. subst (λ x. StoodEachTime t hosted c.args.steps.now x came lanes) c.in-Ok.ensures.node (h tells)) c.run_turns.ensures.ran
+    (kept_settled g.D.Disk.tells t hosted c.args.steps.now n m first lanes c.in-Ok.ensures.node) c.run_turns.ensures.ran
 
 pub returns-in-Err-clause-ran : goal.returns-in-Err-clause-ran
 returns-in-Err-clause-ran g c =
@@ -44,8 +42,8 @@ returns-in-Err-clause-ran g c =
     let n = seen c.args.node.now in
     let lanes = g.D.Disk.lane_of c.args.disk.now in
     ran_unsettled t hosted g.P.Post.tells c.args.steps.now c.args.turns n (seen c.settle.new.node) (g.K.Sink.taken c.args.sink.now) (g.K.Sink.taken c.settle.new.sink)
-    c.args.page.now.held c.settle.new.page.held (g.P.Post.journal c.args.post.now) (λ came. g.D.Disk.tells → StoodEachTime t hosted c.args.steps.now (settled n) came lanes)
-    c.in-Err.fault c.in-Err.ensures.puts.cause c.in-Err.ensures.front (λ tells. stood_none t hosted c.args.steps.now (settled n) lanes)
+    c.args.page.now.held c.settle.new.page.held (g.P.Post.journal c.args.post.now) (KeptRun g.D.Disk.tells t hosted c.args.steps.now n lanes lanes)
+    c.in-Err.fault c.in-Err.ensures.puts.cause c.in-Err.ensures.front (kept_unsettled g.D.Disk.tells t hosted c.args.steps.now n lanes)
 
 pub returns-in-Err-clause-empty : goal.returns-in-Err-clause-empty
 returns-in-Err-clause-empty g c = λ exact other. absurd (put_unknown (Unit {0}) c.in-Err.fault c.in-Err.ensures.puts.cause exact)

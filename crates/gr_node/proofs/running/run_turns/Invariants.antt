@@ -1,12 +1,11 @@
-use Rattle.std.proofs.Common.{◌≡◌, ◌≤◌, [], length, drop, vec_len}
+use Rattle.std.proofs.Common.{◌≡◌, ◌≤◌, false, [], length, drop, vec_len}
 use Rattle.gr_model.specs.NetOf.{net_of}
 use Rattle.gr_node.specs.Seen.{seen}
 use Rattle.gr_node.specs.Of.{OthersStay}
 use Rattle.gr_node.specs.Keeps.{IsServing}
-use Rattle.gr_node.specs.Lasting.{StoodEachTime}
 use Rattle.gr_node.specs.Went.{outside}
 use Rattle.gr_node.specs.Turns.{IsFirst}
-use Rattle.gr_node.proofs.SoFar.{SoFar}
+use Rattle.gr_node.proofs.SoFar.{SoFar, KeptSoFar}
 use Rattle.gr_node.proofs.running.run_turns.Given as goal
 
 -- all that came so far was taken
@@ -15,7 +14,7 @@ invariant-turns g l = record {
   goes : SoFar l.site.topo.now l.site.hosted.now g.P.Post.tells l.steps l.next l.counter (seen l.fn.node) (seen l.node)
       (outside (g.K.Sink.taken l.fn.sink) l.fn.page.held (g.P.Post.journal l.fn.post))
       (outside (g.K.Sink.taken l.sink) l.page.held (g.P.Post.journal l.post))
-      (λ came. g.D.Disk.tells → StoodEachTime l.site.topo.now l.site.hosted.now l.steps (seen l.fn.node) came (g.D.Disk.lane_of l.disk));
+      (λ came. KeptSoFar g.D.Disk.tells l.site.topo.now l.site.hosted.now l.steps (seen l.fn.node) (g.D.Disk.lane_of l.fn.disk) (g.D.Disk.lane_of l.disk) came false);
   within : l.next ≤ length l.steps;
   first : IsFirst (net_of l.site.topo.now) l.site.hosted.now (drop l.next l.steps);
   empty : l.page.held ≡ [];

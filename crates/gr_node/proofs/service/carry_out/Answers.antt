@@ -11,9 +11,9 @@ returns-clause-ran g c =
     let hosted = c.args.site.now.hosted.now in
     let before = c.run_and_show-done in
     subst (λ held. RanWith t hosted g.P.Post.tells g.D.Disk.tells c.args.steps.now c.args.turns (seen c.args.node.now) (seen before.new.node)
-    (outside (g.K.Sink.taken c.args.sink.now) held (g.P.Post.journal c.args.post.now)) (outside (g.K.Sink.taken c.finish.new.sink) [] (g.P.Post.journal before.new.post)) (g.D.Disk.lane_of before.new.disk) c.finish.result)
+    (outside (g.K.Sink.taken c.args.sink.now) held (g.P.Post.journal c.args.post.now)) (outside (g.K.Sink.taken c.finish.new.sink) [] (g.P.Post.journal before.new.post)) (g.D.Disk.lane_of c.args.disk.now) (g.D.Disk.lane_of before.new.disk) c.finish.result)
     c.requires.can.written
-    (ran_wrote t hosted g.P.Post.tells g.D.Disk.tells (g.D.Disk.lane_of before.new.disk) c.args.steps.now c.args.turns (seen c.args.node.now) (seen before.new.node) (outside (g.K.Sink.taken c.args.sink.now) c.args.page.now.held (g.P.Post.journal c.args.post.now))
+    (ran_wrote t hosted g.P.Post.tells g.D.Disk.tells (g.D.Disk.lane_of c.args.disk.now) (g.D.Disk.lane_of before.new.disk) c.args.steps.now c.args.turns (seen c.args.node.now) (seen before.new.node) (outside (g.K.Sink.taken c.args.sink.now) c.args.page.now.held (g.P.Post.journal c.args.post.now))
     (g.K.Sink.taken before.new.sink) (g.K.Sink.taken c.finish.new.sink) before.new.page.held c.finish.new.page.held (g.P.Post.journal before.new.post) before.result c.finish.result
     before.ensures.at_post before.ensures.ran c.finish.ensures.wrote)
 

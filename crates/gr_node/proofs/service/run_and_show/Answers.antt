@@ -21,7 +21,8 @@ returns-in-Ok-clause-ran g c =
           (outside (g.K.Sink.taken c.run.new.sink) c.run.new.page.held (g.P.Post.journal c.run.new.post))
           _ went.1.1.1.1.1.0 (g.K.Sink.taken c.put_shown.new.sink) c.put_shown.new.page.held c.put_shown.result
           c.put_shown.ensures.told c.put_shown.ensures.front c.put_shown.ensures.puts.cause;
-      stood = went.1.1.1.1.1.1;
+      kept = went.1.1.1.1.1.1.0;
+      stood = went.1.1.1.1.1.1.1;
     }
 
 pub returns-in-Ok-clause-serving : goal.returns-in-Ok-clause-serving
@@ -42,7 +43,8 @@ returns-in-Err-clause-ran g c =
           (outside (g.K.Sink.taken c.args.sink.now) c.args.page.now.held (g.P.Post.journal c.args.post.now))
           (outside (g.K.Sink.taken c.run.new.sink) c.run.new.page.held (g.P.Post.journal c.run.new.post))
           c.in-Err.fault c.in-Err.ensures.keeps.never_damaged went.1.1.1.1.1.0;
-      stood = went.1.1.1.1.1.1;
+      kept = went.1.1.1.1.1.1.0;
+      stood = went.1.1.1.1.1.1.1;
     }
 
 pub returns-in-Err-clause-serving : goal.returns-in-Err-clause-serving

@@ -15,7 +15,7 @@ returns-in-Err-clause-ran g c =
     let taken = g.K.Sink.taken c.args.sink.now in
     let lanes = g.D.Disk.lane_of c.args.disk.now in
     with_course t hosted steps c.args.turns g.P.Post.tells g.D.Disk.tells before after taken taken lanes lanes _
-    (serves_bound t hosted c.requires.hosted (none_started t) (none_opened t hosted (none_started t) refl) steps c.args.turns g.P.Post.tells g.D.Disk.tells
+    (serves_bound t hosted c.requires.hosted (none_started t) (none_opened t hosted (none_started t) c.brokers.ensures.topology.sound refl) steps c.args.turns g.P.Post.tells g.D.Disk.tells
     before after taken lanes c.in-Err.fault c.in-Err.ensures.cause c.in-Err.ensures.bound)
 
 pub returns-clause-ran : goal.returns-clause-ran

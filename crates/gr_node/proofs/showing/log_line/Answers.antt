@@ -6,5 +6,5 @@ use Rattle.gr_node.proofs.showing.log_line.Goals as goal
 
 pub returns : goal.returns
 returns c =
-    line_of_log c.args.p c.last.result c.settled.result c.cut.result c.len.result c.log-log.result.now c.is_broken.ensures.follow c.last.ensures c.settled.ensures c.cut.ensures (c.len.ensures ∙ ap length c.events.ensures)
+    line_of_log c.args.p c.last.result c.settled.result c.cut.result c.len.result c.log-log.result.now c.is_broken.ensures.state c.last.ensures c.settled.ensures c.cut.ensures (c.len.ensures ∙ ap length c.events.ensures)
     ∙ sym (ap (λ l. log_shown c.args.p (log_said l)) c.log-log.ensures)

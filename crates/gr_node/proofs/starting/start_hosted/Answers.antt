@@ -8,6 +8,7 @@ use Rattle.gr_node.specs.Starting.{start_lines}
 use Rattle.gr_model_theorems.proofs.order.Unheard.{fed_nothing}
 use Rattle.gr_node.proofs.StartingNodes.{none_begun, begun_set, begun_hosted, with_broker}
 use Rattle.gr_node.proofs.StartingLanes.{none_found, all_found, touched_hosted}
+use Rattle.gr_node.proofs.Lasting.{starts_same, starts_on}
 use Rattle.gr_node.proofs.StartingRuns.{b, lists_kept, begun_next, heard_next, found_next, left_next, damaged_next, next_hosted, put_next, started_all, started_failed, started_cut}
 use Rattle.gr_node.proofs.StartingFaults.{same_fault, none_moved, still_moved, moved_from, sink_kept, sink_unasked, sink_asked}
 use Rattle.gr_node.proofs.starting.start_hosted.Goals as goal
@@ -22,6 +23,7 @@ brokers-init g c =
     record {
       begun = none;
       found = λ tells. none_found t n (g.D.Disk.lane_of c.args.disk.now) (g.D.Disk.lane_of c.args.disk.now) none (λ k. refl);
+      kept = λ tells. starts_same t.late (g.D.Disk.lane_of c.args.disk.now) (g.D.Disk.lane_of c.args.disk.now) (λ k. refl);
       put = subst (λ text. TakesBut taken taken text held) (sym (append-nil held)) (but-nothing taken taken held refl);
       heard = ap (λ (m : NodeView). m.orders) c.requires.none ∙ sym (fed_nothing (orders_of t));
       faults = refl;
@@ -44,6 +46,7 @@ brokers-preserved g c =
     record {
       begun = begun_next t hosted i n c.requires.hosted c.brokers-test.true sofar.begun x os c.in-Ok.ensures.begun;
       found = λ tells. found_next t hosted i n c.requires.hosted c.brokers-test.true sofar.begun before mid after (sofar.found tells) (c.in-Ok.ensures.others tells) x os c.in-Ok.ensures.begun (c.in-Ok.ensures.opens tells) (c.in-Ok.ensures.stands tells);
+      kept = λ tells. starts_on t.late before mid after (sofar.kept tells) (c.in-Ok.ensures.kept tells);
       put = put_next t hosted i n c.requires.hosted c.brokers-test.true sofar.begun (g.K.Sink.taken c.args.sink.now) (g.K.Sink.taken c.brokers.sink) c.args.page.now.held c.brokers.page.held sofar.put (g.K.Sink.taken c.put_heard.new.sink)
           x os c.in-Ok.ensures.begun c.as_slice.result.now (c.as_slice.ensures ∙ c.in-Ok.ensures.lines) c.put_heard.new.page.held c.in-Ok-put_heard.ensures.ok;
       heard = heard_next t hosted i n c.requires.hosted c.brokers-test.true sofar.begun x os c.as_slice.result.now (c.as_slice.ensures ∙ c.in-Ok.ensures.lines) sofar.heard c.in-Ok-put_heard.ensures.heard;
@@ -137,7 +140,15 @@ returns-in-Err-clause-disk g c =
 pub returns-in-Err-clause-sink : goal.returns-in-Err-clause-sink
 returns-in-Err-clause-sink g c = sink_unasked c.in-Err.fault (g.K.Sink.faults c.args.sink.now) (g.K.Sink.faults c.brokers.sink) c.in-Err.ensures.cause c.brokers.invariant.same
 
+pub returns-in-Err-clause-kept : goal.returns-in-Err-clause-kept
+returns-in-Err-clause-kept g c = λ tells.
+    starts_on c.args.site.now.topo.now.late (g.D.Disk.lane_of c.args.disk.now) (g.D.Disk.lane_of c.brokers.disk) (g.D.Disk.lane_of c.start_one.new.disk) (c.brokers.invariant.kept tells) (c.in-Err.ensures.kept tells)
+
 -- Its lines could not be put
+
+pub returns-in-Err-put_heard-clause-kept : goal.returns-in-Err-put_heard-clause-kept
+returns-in-Err-put_heard-clause-kept g c = λ tells.
+    starts_on c.args.site.now.topo.now.late (g.D.Disk.lane_of c.args.disk.now) (g.D.Disk.lane_of c.brokers.disk) (g.D.Disk.lane_of c.start_one.new.disk) (c.brokers.invariant.kept tells) (c.in-Ok.ensures.kept tells)
 
 pub returns-in-Err-put_heard-clause-started : goal.returns-in-Err-put_heard-clause-started
 returns-in-Err-put_heard-clause-started g c =
@@ -267,3 +278,6 @@ returns-clause-disk g c = none_moved tt (g.D.Disk.faults c.args.disk.now) (g.D.D
 
 pub returns-clause-sink : goal.returns-clause-sink
 returns-clause-sink g c = sink_kept tt (g.K.Sink.faults c.args.sink.now) (g.K.Sink.faults c.brokers.sink) c.brokers.invariant.same
+
+pub returns-clause-kept : goal.returns-clause-kept
+returns-clause-kept g c = c.brokers.invariant.kept

@@ -3,6 +3,7 @@ use Rattle.gr_node.specs.Seen.{seen}
 use Rattle.gr_node.specs.Plan.{publishes}
 use Rattle.gr_node.specs.Went.{outside}
 use Rattle.gr_node.proofs.Keeping.{if_ok, set_on, serving_of}
+use Rattle.gr_node.proofs.Lasting.{acts_call}
 use Rattle.gr_node.proofs.Wending.{went_call, went_refused}
 use Rattle.gr_node.proofs.turning.publish.Goals as goal
 
@@ -30,3 +31,11 @@ returns-in-Ok-clause-serving g c =
 pub returns-in-Err-clause-went : goal.returns-in-Err-clause-went
 returns-in-Err-clause-went g c = went_refused c.args.site.now.topo.now c.args.site.now.hosted.now g.P.Post.tells _ _ (seen c.args.node.now) _
     (outside (g.K.Sink.taken c.args.sink.now) c.args.page.now.held (g.P.Post.journal c.args.post.now)) c.in-Err.fault c.in-Err.ensures.cause (λ e. refl)
+
+pub returns-in-Ok-clause-kept : goal.returns-in-Ok-clause-kept
+returns-in-Ok-clause-kept g c = λ tells.
+    acts_call c.args.site.now.topo.now c.args.site.now.hosted.now (seen c.args.node.now) (publishes (c.args.p, (c.args.number, c.args.event.now))) (g.D.Disk.lane_of c.args.disk.now) (g.D.Disk.lane_of c.publish_at.new.disk) (c.in-Ok.ensures.kept tells)
+
+pub returns-in-Err-clause-kept : goal.returns-in-Err-clause-kept
+returns-in-Err-clause-kept g c = λ tells.
+    acts_call c.args.site.now.topo.now c.args.site.now.hosted.now (seen c.args.node.now) (publishes (c.args.p, (c.args.number, c.args.event.now))) (g.D.Disk.lane_of c.args.disk.now) (g.D.Disk.lane_of c.publish_at.new.disk) (c.in-Err.ensures.kept tells)

@@ -8,7 +8,7 @@ use Rattle.gr_broker.specs.Hosted.{publish_at, publish_logs_at}
 use Rattle.gr_node.specs.Seen.{seen}
 use Rattle.gr_node.proofs.Exchanged.{Place, placed, placed_at, hosts_here}
 use Rattle.gr_node.proofs.Called.{Publishes, makes_publish, fits_at_host, stands_at_host}
-use Rattle.gr_node.proofs.Lasting.{all_on, keep_publish}
+use Rattle.gr_node.proofs.Kept.{publish_keeps}
 use Rattle.gr_node.proofs.node.Node.publish_at.Given.{Over}
 use Rattle.gr_node.proofs.node.Node.publish_at.Goals as goal
 
@@ -53,14 +53,13 @@ returns-clause-stands g c = λ tells.
     (place g c) c.requires.publisher c.publish-answer.result c.answered.result c.answered.ensures (outcome g c) (logs g c) (gives g c)
     (g.D.Disk.lane_of c.args.disk.now) (g.D.Disk.lane_of c.publish-answer.new.disk) (c.publish-answer.ensures.uses.others tells) (c.requires.stands tells) (c.publish-answer.ensures.stands tells)
 
-pub returns-clause-keeps : goal.returns-clause-keeps
-returns-clause-keeps g c = λ tells lanes kept.
+pub returns-clause-kept : goal.returns-clause-kept
+returns-clause-kept g c = λ tells.
+    let t = c.args.topo.now in
+    let n = seen c.args.self.now in
     let x = c.take_out-broker.result in
     let was = c.take_out-broker.ensures.was in
     let e = c.publish-answer.ensures in
-    let before = g.D.Disk.lane_of c.args.disk.now in
-    let after = g.D.Disk.lane_of c.publish-answer.new.disk in
-    let here = hosts_here c.args.topo.now (seen c.args.self.now) c.host-host.result c.args.p x c.requires.fits was c.requires.publisher (sym c.host-host.ensures.host) in
-    all_on c.args.topo.now.late lanes before after kept
-    (keep_publish c.args.topo.now.late x c.args.p before after (log_answer c.publish-answer.result) (λ l h. (c.requires.fits.fits c.host-host.result x was).late c.args.p l h) (λ l h. c.requires.fits.whole c.host-host.result c.args.p x l was h) (c.requires.stands tells c.host-host.result x was) (e.uses.goes_on tells) (e.uses.others tells)
-    (publish_logs_at x c.args.p c.args.self.now.now c.args.number c.args.event.now) here.1 (e.lane tells))
+    let at = sym c.host-host.ensures.host in
+    publish_keeps t n c.requires.fits c.host-host.result c.args.p x was c.requires.publisher (g.D.Disk.lane_of c.args.disk.now) (g.D.Disk.lane_of c.publish-answer.new.disk) (log_answer c.publish-answer.result)
+    (e.uses.goes_on tells) (e.uses.others tells) c.args.number c.args.event.now at (hosts_here t n c.host-host.result c.args.p x c.requires.fits was c.requires.publisher at).1 (e.lane tells)

@@ -1,11 +1,10 @@
 -- The broker is woken at its place
 use Rattle.std.proofs.Common.{◌<◌, ap, subst, sym}
 use Rattle.gr_broker.specs.Told.{log_answer}
-use Rattle.gr_broker.specs.Hosted.{mark_logs_at, cut_logs_at}
 use Rattle.gr_node.specs.Seen.{seen}
 use Rattle.gr_node.proofs.Exchanged.{Place, placed}
 use Rattle.gr_node.proofs.Called.{Wakes, makes_wake, fits_wake, stands_wake, others_wake}
-use Rattle.gr_node.proofs.Lasting.{all_on, keep_wake}
+use Rattle.gr_node.proofs.Kept.{wake_keeps}
 use Rattle.gr_node.proofs.node.Node.wake_at.Given.{Over}
 use Rattle.gr_node.proofs.node.Node.wake_at.Goals as goal
 
@@ -52,13 +51,9 @@ returns-clause-others g c = λ tells.
     (place g c) c.requires.publisher c.wake-answer.result c.answered.result c.answered.ensures (gives g c)
     (g.D.Disk.lane_of c.args.disk.now) (g.D.Disk.lane_of c.wake-answer.new.disk) (λ none m. ap (λ d. g.D.Disk.lane_of d m) (e.below none)) (e.uses.others tells)
 
-pub returns-clause-keeps : goal.returns-clause-keeps
-returns-clause-keeps g c = λ tells lanes kept.
-    let x = c.take_out-broker.result in
-    let was = c.take_out-broker.ensures.was in
+pub returns-clause-kept : goal.returns-clause-kept
+returns-clause-kept g c = λ tells.
     let e = c.wake-answer.ensures in
-    let before = g.D.Disk.lane_of c.args.disk.now in
-    let after = g.D.Disk.lane_of c.wake-answer.new.disk in
-    all_on c.args.topo.now.late lanes before after kept
-    (keep_wake c.args.topo.now.late x c.args.p before after (log_answer c.wake-answer.result) (λ l h. (c.requires.fits.fits c.args.b x was).late c.args.p l h) (λ l h. c.requires.fits.whole c.args.b c.args.p x l was h) (c.requires.stands tells c.args.b x was) (e.uses.goes_on tells) (e.uses.others tells)
-    (mark_logs_at c.args.topo.now x c.args.p c.args.self.now.now) (cut_logs_at c.args.topo.now x c.args.p c.args.self.now.now) (λ none m. ap (λ d. g.D.Disk.lane_of d m) (e.below none)) (e.lane tells))
+    wake_keeps c.args.topo.now (seen c.args.self.now) c.requires.fits c.args.b c.args.p c.take_out-broker.result c.take_out-broker.ensures.was c.requires.publisher
+    (g.D.Disk.lane_of c.args.disk.now) (g.D.Disk.lane_of c.wake-answer.new.disk) (log_answer c.wake-answer.result)
+    (e.uses.goes_on tells) (e.uses.others tells) (λ none m. ap (λ d. g.D.Disk.lane_of d m) (e.below none)) (e.lane tells)
