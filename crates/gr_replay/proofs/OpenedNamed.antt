@@ -1,8 +1,8 @@
--- Each line that the opening of a world tells is named, and a lane that reads nothing is an empty log
-use Rattle.std.proofs.Common.{◌≡◌, ◌<◌, ◌*◌, arith, ℕ, List, [], refl, sym, subst, ◌∙◌, length, Ok, Err}
+-- Each line that the opening of a world tells is named, and lanes that read nothing hold an empty log
+use Rattle.std.proofs.Common.{◌≡◌, ◌<◌, arith, ℕ, List, [], sym, ap₂, subst, ◌∙◌, length, Result, Ok, Err}
 use Rattle.std.specs.Prelude.{flat_map}
-use Rattle.gr_out.specs.Lane.{Lane, content}
-use Rattle.gr_publog.specs.Text.{log_text}
+use Rattle.gr_out.specs.Lane.{Lane}
+use Rattle.gr_publog.specs.Lanes.{Found, found_none, lanes_text}
 use Rattle.gr_topo.specs.Topology.{TopologyView}
 use Rattle.gr_model.specs.declared.report.Report.{Report}
 use Rattle.gr_model.specs.Net.{numbers}
@@ -14,6 +14,7 @@ use Rattle.gr_broker.specs.Opened.{opened_at, IsDamagedAt}
 use Rattle.gr_report.specs.Named.{AllNamed}
 use Rattle.gr_report.proofs.Named.{names_of, all_of}
 use Rattle.gr_report.proofs.OpenedNamed.{start_named, each_flat}
+use Rattle.gr_report.proofs.Readable.{nothing_found}
 use Rattle.gr_world.specs.Seen.{WorldView, broker_in}
 use Rattle.gr_world.specs.Opened.{IsOpened, AreEmpty}
 
@@ -41,14 +42,10 @@ opened_named t w o h = all_of (IsNamed t) w.told (subst (Each (IsNamed t)) (sym 
 pub named_here : (t : TopologyView) (w : WorldView) → IsOrderly (net_of t) → IsOpened t w → AllNamed w.topo w.told
 named_here t w o h = subst (λ x. AllNamed x w.told) (sym h.topo) (opened_named t w o h)
 
-nothing_read : (late : List ℕ) → log_text late [] ≡ Ok []
-unfolding log_text
-nothing_read late = refl
-
--- a lane that reads nothing is not damaged
+-- lanes that read nothing are not damaged
 pub empty_is_whole : (t : TopologyView) (lanes : ℕ → Lane) (b p at : ℕ) → AreEmpty t lanes → IsDamagedAt t b p at lanes → ⊥
 empty_is_whole t lanes b p at e d =
-    let nothing : content (lanes (2 * p)) ≡ [] = e p d.publisher in
-    let read : log_text t.late [] ≡ Err at = subst (λ xs. log_text t.late xs ≡ Err at) nothing d.fault in
-    let differ : Ok [] ≡ Err at = sym (nothing_read t.late) ∙ read in
+    let nothing = e p d.publisher in
+    let read : lanes_text t.late [] [] ≡ Err at = ap₂ (lanes_text t.late) (sym nothing.0) (sym nothing.1) ∙ d.fault in
+    let differ : ◌≡◌ {A = Result Found ℕ} (Ok (found_none t.late)) (Err at) = sym (nothing_found t.late) ∙ read in
     cc

@@ -1,5 +1,5 @@
 -- The text of what steps tell over a world and lists, cut behind one of them
-use Rattle.std.proofs.Common.{◌≡◌, ℕ, ◌+◌, ◌<◌, List, [], ◌∷◌, ◌++◌, take, drop, get_or, length, refl, sym, ap, ◌∙◌, subst}
+use Rattle.std.proofs.Common.{◌≡◌, ℕ, ◌+◌, ◌<◌, true, List, [], ◌∷◌, ◌++◌, take, drop, get_or, length, refl, sym, ap, ◌∙◌, subst}
 use Rattle.std.proofs.lemmas.List.{take_more, take-append-drop}
 use Rattle.gr_sched.specs.declared.step.Line.{Line}
 use Rattle.gr_topo.specs.Topology.{TopologyView}
@@ -8,8 +8,10 @@ use Rattle.gr_model.specs.Net.{Net}
 use Rattle.gr_model.specs.NetOf.{net_of}
 use Rattle.gr_model.specs.Orders.{Order, fed, with_orders, orders_of, AreOrdersOf}
 use Rattle.gr_model.specs.Text.{Labels, labels_of, report_text}
-use Rattle.gr_model.specs.World.{World, Transition, next, run_all, run_from, start}
+use Rattle.gr_model.specs.World.{World, Transition, next, run_all, run_from, start_by}
 use Rattle.gr_model.proofs.Ordering.{fed_keeps, rested_keeps}
+use Rattle.gr_model_theorems.specs.Forgets.{ForgetTheSame}
+use Rattle.gr_model_theorems.proofs.server.Lanes.{started_same}
 use Rattle.gr_world.specs.Seen.{WorldView, net_in, world_of}
 use Rattle.gr_replay.specs.Replayed.{all_lines, replayed_text}
 use Rattle.gr_replay.specs.Going.{Tells, with_ready, left_behind, orders_after, step_text, text_from}
@@ -94,8 +96,9 @@ step_lines old new os l lines told t e s n =
 pub step_leaves : (old new : WorldView) (os : List Order) (l : Line) (lines told : List Report) → told ≡ lines → Tells l old new lines → left_behind os told ≡ left_behind os (next (net_in old) (world_of old) l).lines
 step_leaves old new os l lines told s n = ap (left_behind os) (s ∙ sym (ap (λ (x : Transition). x.lines) n))
 
--- where the opening told nothing, what it told and what steps tell is the text of their replay
-pub whole_text : (t : TopologyView) (w : WorldView) (os left : List Order) (slice steps : List Line) → os ≡ orders_of t → left ≡ left_behind os w.told → w.told ≡ [] → slice ≡ steps → w.topo ≡ t → world_of w ≡ start (net_of t)
+-- where the opening told nothing, what it told and what steps tell is the text of their replay: logs that forget what they cut lead to
+-- the lines of the report
+pub whole_text : (t : TopologyView) (w : WorldView) (os left : List Order) (slice steps : List Line) → os ≡ orders_of t → left ≡ left_behind os w.told → w.told ≡ [] → slice ≡ steps → w.topo ≡ t → world_of w ≡ start_by true (net_of t)
     → report_text (labels_of w.topo) (with_ready os w.told) ++ text_from w left slice ≡ replayed_text t steps
 whole_text t w os left slice steps o l z s e x =
     ap (λ y. report_text (labels_of w.topo) (with_ready y w.told) ++ text_from w left slice) o
@@ -103,7 +106,8 @@ whole_text t w os left slice steps o l z s e x =
     ∙ ap (λ y. opened ++ text_from w y slice) (l ∙ ap (λ y. left_behind y w.told) o ∙ ap (left_behind (orders_of t)) z)
     ∙ ap (λ y. opened ++ text_from w (left_behind (orders_of t) []) y) s
     ∙ ap (λ y. opened ++ report_text (labels_of w.topo) (all_lines (with_orders (left_behind (orders_of t) []) (run_from (net_in w) y steps)))) x
-    ∙ ap (λ y. report_text (labels_of y) (with_ready (orders_of t) []) ++ report_text (labels_of y) (all_lines (with_orders (left_behind (orders_of t) []) (run_from (net_of y) (start (net_of t)) steps)))) e
+    ∙ ap (λ y. report_text (labels_of y) (with_ready (orders_of t) []) ++ report_text (labels_of y) (all_lines (with_orders (left_behind (orders_of t) []) (run_from (net_of y) (start_by true (net_of t)) steps)))) e
+    ∙ ap (λ rs. report_text (labels_of t) (with_ready (orders_of t) []) ++ report_text (labels_of t) (all_lines (with_orders (left_behind (orders_of t) []) rs))) (let same : ForgetTheSame (net_of t) steps = started_same (net_of t) steps in same.lines)
     ∙ replayed_apart t steps
   where
     opened : List ℕ

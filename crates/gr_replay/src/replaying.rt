@@ -1,6 +1,6 @@
 //! A schedule is carried out over a disk, and its report is written.
 
-ghost use Rattle.std.specs.Prelude.{◌≡◌, ◌≢◌, ℕ, ◌++◌, [], take, Err, IfOk, IfErr, OnOk, OnErr, IsErrOf};
+ghost use Rattle.std.specs.Prelude.{◌≡◌, ◌≢◌, ℕ, ◌++◌, true, [], take, Err, IfOk, IfErr, OnOk, OnErr, IsErrOf};
 ghost use Rattle.gr_out.specs.Bytes.{with_more};
 ghost use Rattle.gr_out.specs.Faults.{Rose};
 ghost use Rattle.gr_out.specs.Stops.{StaysFaultless};
@@ -8,7 +8,7 @@ ghost use Rattle.gr_publog.specs.Crash.{EitherRose};
 ghost use Rattle.gr_model.specs.NetOf.{net_of};
 ghost use Rattle.gr_model.specs.Orders.{AreOrdersOf};
 ghost use Rattle.gr_model.specs.Text.{labels_of, report_text};
-ghost use Rattle.gr_model.specs.World.{next, start};
+ghost use Rattle.gr_model.specs.World.{next, start_by};
 ghost use Rattle.gr_world.specs.Seen.{net_in, world_of};
 ghost use Rattle.gr_world.specs.Of.{LanesFit};
 ghost use Rattle.gr_world.specs.Opened.{NoStops, AreEmpty, IsFirstDamaged};
@@ -39,7 +39,7 @@ use std::mem::forget;
 ///
 /// `Memory` where memory is refused. `Write` only where the sink failed in this call. `Disk` only where the disk failed
 /// in this call, and no stop that a step orders is such a failure; the lines of all steps before are written then.
-/// `Damaged` where at the start the lane of a publisher holds no log: the first such publisher, broker by broker, and
+/// `Damaged` where at the start the lanes of a publisher hold no log: the first such publisher, broker by broker, and
 /// the place of the first fault.
 /// `Post` never comes. After each fault the sink took a front of the report.
 ///
@@ -110,8 +110,8 @@ pub fn replay<K: Sink, D: SimDisk>(
 /// Opens the world of a topology over a disk on whose lanes no stop is ordered: each broker starts over the logs that
 /// its lanes hold. The world stands ready for `step`.
 ///
-/// `Memory` where memory is refused, `Disk` only where the disk failed in this call, `Damaged` where the lane of a
-/// publisher holds no log: the first such publisher, broker by broker, and the place of the first fault. No other fault
+/// `Memory` where memory is refused, `Disk` only where the disk failed in this call, `Damaged` where the lanes of a
+/// publisher hold no log: the first such publisher, broker by broker, and the place of the first fault. No other fault
 /// comes.
 pub fn opened<D: SimDisk>(
     alloc: Global,
@@ -124,7 +124,7 @@ pub fn opened<D: SimDisk>(
     ensures going { IfOk result IsGoing }
     ensures named { IfOk result (λ w. AllNamed w.topo w.told) }
     ensures fresh { AreEmpty topology (D.lane_of disk.old)
-        → IfOk result (λ w. (world_of w ≡ start (net_of topology)) × (w.told ≡ [])) }
+        → IfOk result (λ w. (world_of w ≡ start_by true (net_of topology)) × (w.told ≡ [])) }
     ensures cause { IfErr result IsOpeningFault }
     ensures damaged { (p at : ℕ) → result ≡ Err (RunFault.Damaged p at)
         → IsFirstDamaged topology p at (D.lane_of disk.old) }

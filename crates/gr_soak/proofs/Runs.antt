@@ -1,5 +1,5 @@
 -- What steps tell, with one step more
-use Rattle.std.proofs.Common.{◌≡◌, ℕ, ◌+◌, ◌<◌, List, [], ◌∷◌, ◌++◌, take, get_or, length, Option, None, Some, refl, sym, ap, ap₂, ◌∙◌}
+use Rattle.std.proofs.Common.{◌≡◌, ℕ, ◌+◌, ◌<◌, true, List, [], ◌∷◌, ◌++◌, take, get_or, length, Option, None, Some, refl, sym, ap, ap₂, ◌∙◌}
 use Rattle.std.specs.List.{count_by, sum_by, last_or}
 use Rattle.std.specs.Option.{unwrap_or}
 use Rattle.std.specs.Prelude.{Bool}
@@ -10,7 +10,9 @@ use Rattle.gr_sched.specs.declared.step.Line.{Line}
 use Rattle.gr_model.specs.declared.report.Report.{Report}
 use Rattle.gr_model.specs.Net.{Net}
 use Rattle.gr_model.specs.NetOf.{net_of}
-use Rattle.gr_model.specs.World.{World, start, next, run_all, run_from, run_from_by, report_of, report_of_by}
+use Rattle.gr_model.specs.World.{World, start_by, next, run_all, run_from, run_from_by, report_of, report_of_by}
+use Rattle.gr_model_theorems.specs.Forgets.{ForgetTheSame}
+use Rattle.gr_model_theorems.proofs.server.Lanes.{started_same}
 use Rattle.gr_world.specs.Seen.{WorldView, net_in, world_of}
 use Rattle.gr_replay.specs.Going.{Tells}
 use Rattle.gr_replay.specs.Replayed.{all_lines}
@@ -54,15 +56,16 @@ pub last_with_start : (steps : List (List Report)) → last_lines ([] ∷ steps)
 last_with_start [] = refl
 last_with_start (s ∷ steps) = refl
 
-report_is : (t : TopologyView) (w : WorldView) (slice steps : List Line) → w.topo ≡ t → world_of w ≡ start (net_of t) → slice ≡ steps → report_of (net_of t) steps ≡ [] ∷ run_from (net_in w) (world_of w) slice
+report_is : (t : TopologyView) (w : WorldView) (slice steps : List Line) → w.topo ≡ t → world_of w ≡ start_by true (net_of t) → slice ≡ steps → report_of (net_of t) steps ≡ [] ∷ run_from (net_in w) (world_of w) slice
 unfolding report_of_by
 report_is t w slice steps e s l =
-    ap (λ u. [] ∷ run_from (net_of t) u steps) (sym s)
+    ap (λ (rs : List (List Report)). [] ∷ rs) (sym (let same : ForgetTheSame (net_of t) steps = started_same (net_of t) steps in same.lines))
+    ∙ ap (λ u. [] ∷ run_from (net_of t) u steps) (sym s)
     ∙ ap (λ x. [] ∷ run_from (net_of x) (world_of w) steps) (sym e)
     ∙ ap (λ xs. [] ∷ run_from (net_in w) (world_of w) xs) (sym l)
 
 -- counts over what the steps told are the summary of their report
-pub summary_is : (t : TopologyView) (w : WorldView) (slice steps : List Line) (a f b h k : ℕ) (shown : List Report) → w.topo ≡ t → world_of w ≡ start (net_of t) → slice ≡ steps
+pub summary_is : (t : TopologyView) (w : WorldView) (slice steps : List Line) (a f b h k : ℕ) (shown : List Report) → w.topo ≡ t → world_of w ≡ start_by true (net_of t) → slice ≡ steps
     → a ≡ count_by is_logged (all_lines (run_from (net_in w) (world_of w) slice)) → b ≡ count_by is_got (all_lines (run_from (net_in w) (world_of w) slice))
     → shown ≡ last_lines (run_from (net_in w) (world_of w) slice)
     → f ≡ sum_by frames_told shown → h ≡ count_by (is_behind shown) shown → k ≡ sum_by kept_told shown
