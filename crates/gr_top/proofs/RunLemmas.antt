@@ -1,6 +1,6 @@
 -- What a run of brokers ensures, as the answer that it comes to; and after a run that was carried out each lane held a log, since
 -- each broker has started
-use Rattle.std.proofs.Common.{◌≡◌, ◌⊎◌, ℕ, ◌*◌, Bool, true, nat_eq, List, [], ◌∷◌, ◌++◌, length, map, Option, Result, Ok, Err, IsOk, refl, sym, ap, ◌∙◌, subst, inl, inr, ⊎_elim}
+use Rattle.std.proofs.Common.{◌≡◌, ◌⊎◌, ℕ, suc, ◌*◌, Bool, true, nat_eq, List, [], ◌∷◌, ◌++◌, length, map, Option, Result, Ok, Err, IsOk, refl, sym, ap, ◌∙◌, subst, inl, inr, ⊎_elim}
 use Rattle.std.specs.Prelude.{⊤}
 use Rattle.std.specs.List.{list_any, AllByRecursion}
 use Rattle.std.proofs.lemmas.Bool.{false≢true, or_cases, or_left, or_right, eqb-true, eq-eqb}
@@ -10,7 +10,7 @@ use Rattle.gr_out.specs.declared.fault.RunFault.TheVariants as run
 use Rattle.gr_out.specs.Bytes.{with_more}
 use Rattle.gr_out.specs.Lane.{Lane, content}
 use Rattle.gr_out.specs.Page.{TakesFront}
-use Rattle.gr_publog.specs.Text.{log_text}
+use Rattle.gr_publog.specs.Lanes.{lanes_text}
 use Rattle.gr_sched.specs.declared.step.Line.{Line}
 use Rattle.gr_topo.specs.Topology.{TopologyView, host_of, totals_of}
 use Rattle.gr_scenario.specs.Steps.{AreStepsOf}
@@ -18,7 +18,8 @@ use Rattle.gr_model.specs.Net.{numbers}
 use Rattle.gr_model.specs.NetOf.{net_of}
 use Rattle.gr_model.specs.Orders.{orders_of}
 use Rattle.gr_model_theorems.specs.Served.{IsOfBytes}
-use Rattle.gr_model_theorems.specs.Lanes.{AllFollow, HoldsServedLanes}
+use Rattle.gr_model_theorems.specs.Forgets.{AllOpened}
+use Rattle.gr_model_theorems.specs.Lanes.{HoldsServedLanes}
 use Rattle.gr_model_theorems.specs.OrderedServed.{OrderedServedLanes, OneOrderServedLanes}
 use Rattle.gr_model_theorems.specs.Statements.{AreTotals}
 use Rattle.gr_node.specs.Plan.{Act, binds, starts, shows, ours, nodes, plan, run_acts}
@@ -37,20 +38,20 @@ HasRun t lines hosted turns post_tells disk_tells before after answer =
 
 -- that an honest journal of all brokers meets the headline
 abbrev pub MeetsServed : TopologyView → Type 0
-MeetsServed t = (steps : List Line) (c : Course) → AreStepsOf t steps → AllFollow t.late c.records
+MeetsServed t = (steps : List Line) (c : Course) → AreStepsOf t steps → AllOpened t.late c.logs
     → AllByRecursion IsOfBytes c.came → IsHonestJournal [] (planned t (numbers (length t.brokers)) steps c)
-    → HoldsServedLanes (net_of t) c.records steps (ours (numbers (length t.brokers)) c.came)
+    → HoldsServedLanes (net_of t) c.logs steps (ours (numbers (length t.brokers)) c.came)
 
 -- and that its lists over all publishers are what they are to be
 abbrev pub OrdersServed : TopologyView → Type 0
-OrdersServed t = (steps : List Line) (c : Course) (totals : List ℕ) → AreStepsOf t steps → AllFollow t.late c.records
+OrdersServed t = (steps : List Line) (c : Course) (totals : List ℕ) → AreStepsOf t steps → AllOpened t.late c.logs
     → AllByRecursion IsOfBytes c.came → IsHonestJournal [] (planned t (numbers (length t.brokers)) steps c)
     → AreTotals (net_of t) totals
-    → OrderedServedLanes (net_of t) totals c.records steps (ours (numbers (length t.brokers)) c.came)
-    × OneOrderServedLanes (net_of t) totals c.records steps (ours (numbers (length t.brokers)) c.came)
+    → OrderedServedLanes (net_of t) totals c.logs steps (ours (numbers (length t.brokers)) c.came)
+    × OneOrderServedLanes (net_of t) totals c.logs steps (ours (numbers (length t.brokers)) c.came)
 
-in_order : (t : TopologyView) (lines : List Line) (hosted : List ℕ) (c : Course) → OrderedServedLanes (net_of t) (totals_of t) c.records lines (ours hosted c.came)
-    × OneOrderServedLanes (net_of t) (totals_of t) c.records lines (ours hosted c.came) → IsInOrder t lines hosted c
+in_order : (t : TopologyView) (lines : List Line) (hosted : List ℕ) (c : Course) → OrderedServedLanes (net_of t) (totals_of t) c.logs lines (ours hosted c.came)
+    × OneOrderServedLanes (net_of t) (totals_of t) c.logs lines (ours hosted c.came) → IsInOrder t lines hosted c
 in_order t lines hosted c x = record {
   behind = are_behind (orders_of t) (served_lines t lines hosted c);
   ordered = x.0;
@@ -68,12 +69,12 @@ runs_to t lines hosted turns post_tells disk_tells before after answer can meets
   prints = r.1.1.1.0;
   keeps = r.1.1.1.1;
   headline = λ all honest.
-      subst (λ h. HoldsServedLanes (net_of t) r.0.records lines (ours h r.0.came)) (sym all)
-      (meets lines r.0 can.steps r.1.0.follow r.1.0.bytes (subst (λ h. IsHonestJournal [] (planned t h lines r.0)) all honest));
+      subst (λ h. HoldsServedLanes (net_of t) r.0.logs lines (ours h r.0.came)) (sym all)
+      (meets lines r.0 can.steps r.1.0.opened r.1.0.bytes (subst (λ h. IsHonestJournal [] (planned t h lines r.0)) all honest));
   ordered = λ all honest.
       subst (λ h. IsInOrder t lines h r.0) (sym all)
       (in_order t lines (numbers (length t.brokers)) r.0
-      (orders lines r.0 (totals_of t) can.steps r.1.0.follow r.1.0.bytes (subst (λ h. IsHonestJournal [] (planned t h lines r.0)) all honest) (are_totals t)));
+      (orders lines r.0 (totals_of t) can.steps r.1.0.opened r.1.0.bytes (subst (λ h. IsHonestJournal [] (planned t h lines r.0)) all honest) (are_totals t)));
 }
 
 -- a run that a fault ended, and what its status says
@@ -136,7 +137,7 @@ ok_by : {A E : Type 0} (r : Result A E) (a : A) → r ≡ Ok a → IsOk r
 ok_by (Ok x) a e = refl
 ok_by (Err x) a e = let bad : Err x ≡ Ok a = e in cc
 
--- so each of their lanes held a log
+-- so the lanes of each of their publishers held a log
 pub all_read : (t : TopologyView) (lines : List Line) (hosted : List ℕ) (turns : ℕ) (c : Course) (before after : ℕ → Lane)
     → IsRunOf {T = ⊤} t hosted lines turns c (Ok tt) → KeepsLogs {T = ⊤} t hosted lines c before after (Ok tt) → AllRead t hosted before
 all_read t lines hosted turns c before after is_run keeps = λ p lt here.
@@ -144,4 +145,5 @@ all_read t lines hosted turns c before after is_run keeps = λ p lt here.
     sym (append-nil c.made) ∙ (ap (λ l. c.made ++ l) (sym is_run.whole) ∙ is_run.acts) in
     let started : list_any (is_start (host_of t p)) c.made ≡ true =
     ap (list_any (is_start (host_of t p))) made ∙ plan_starts t lines hosted c (host_of t p) here in
-    ok_by (log_text t.late (content (before (2 * p)))) _ (keeps.found p lt here started)
+    let opens = (keeps.found p lt here started).1 in
+    ok_by (lanes_text t.late (content (before (2 * p))) (content (before (suc (2 * p))))) opens.0 opens.1

@@ -1,12 +1,12 @@
 -- What `serve` is asked, and what a run of brokers comes to
-use Rattle.std.specs.Prelude.{◌≡◌, ◌⊎◌, ℕ, ◌*◌, ◌<◌, true, List, [], length, Option, Result, Err, IsOk, IfSome, ⊤}
+use Rattle.std.specs.Prelude.{◌≡◌, ◌⊎◌, ℕ, suc, ◌*◌, ◌<◌, true, List, [], length, Option, Result, Err, IsOk, IfSome, ⊤}
 use Rattle.gr_out.specs.declared.fault.RunFault.{RunFault}
 use Rattle.gr_out.specs.declared.fault.RunFault.TheVariants as run
 use Rattle.gr_out.specs.Bytes.{with_more}
 use Rattle.gr_out.specs.Entry.{Entry}
 use Rattle.gr_out.specs.Lane.{Lane, content}
 use Rattle.gr_out.specs.Page.{TakesFront}
-use Rattle.gr_publog.specs.Text.{log_text}
+use Rattle.gr_publog.specs.Lanes.{lanes_text}
 use Rattle.gr_sched.specs.declared.step.Line.{Line}
 use Rattle.gr_topo.specs.Topology.{TopologyView, totals_of}
 use Rattle.gr_scenario.specs.declared.asked.Asked.{Asked}
@@ -20,7 +20,7 @@ use Rattle.gr_model.specs.Net.{numbers}
 use Rattle.gr_model.specs.NetOf.{net_of}
 use Rattle.gr_model.specs.Arrivals.{is_hosted, served}
 use Rattle.gr_model.specs.Orders.{orders_of, ordered_steps, with_orders}
-use Rattle.gr_model_theorems.specs.Lanes.{HoldsServedLanes, whole_logs}
+use Rattle.gr_model_theorems.specs.Lanes.{HoldsServedLanes}
 use Rattle.gr_model_theorems.specs.OrderedServed.{OrderedServedLanes, OneOrderServedLanes}
 use Rattle.gr_node.specs.Of.{AreHosted, AreAddressed}
 use Rattle.gr_node.specs.Plan.{ours}
@@ -80,7 +80,7 @@ around taken journal lanes = record { taken = taken; journal = journal; lanes = 
 
 -- what the machine serves of the arrivals of a run: the lines of the opening, of each arrival, and of the end
 abbrev pub served_lines : TopologyView → List Line → List ℕ → Course → List (List Report)
-served_lines t lines hosted c = served (net_of t) hosted (whole_logs c.records) lines (ours hosted c.came)
+served_lines t lines hosted c = served (net_of t) hosted c.logs lines (ours hosted c.came)
 
 -- the lists over all publishers in a run of all brokers
 pub record IsInOrder (t : TopologyView) (lines : List Line) (hosted : List ℕ) (c : Course) : Type 0 where
@@ -90,9 +90,9 @@ pub record IsInOrder (t : TopologyView) (lines : List Line) (hosted : List ℕ) 
       (ordered_steps (orders_of t) (served_lines t lines hosted c))
   -- that is, after the opening and after each arrival each of these was told exactly what all publishers have past the
   -- cut that was found, up to where it has heard them all, each event once, rising by tick and then publisher
-  pub ordered : OrderedServedLanes (net_of t) (totals_of t) c.records lines (ours hosted c.came)
+  pub ordered : OrderedServedLanes (net_of t) (totals_of t) c.logs lines (ours hosted c.came)
   -- and of two of these that want the same, at any two arrivals, one list begins with the other
-  pub one_order : OneOrderServedLanes (net_of t) (totals_of t) c.records lines (ours hosted c.came)
+  pub one_order : OneOrderServedLanes (net_of t) (totals_of t) c.logs lines (ours hosted c.came)
 
 -- A run came to an answer. What was done of it is told by its course: the post has the journal of that, the sink took
 -- its lines and the lanes hold its logs. Where all brokers served, over old logs too, and the journal is honest, the
@@ -105,7 +105,7 @@ pub record RunsTo (t : TopologyView) (lines : List Line) (hosted : List ℕ) (tu
   pub prints : Prints t hosted lines course before.taken after.taken answer
   pub keeps : disk_tells → KeepsLogs t hosted lines course before.lanes after.lanes answer
   pub headline : hosted ≡ numbers (length t.brokers) → IsHonestJournal [] (planned t hosted lines course)
-      → HoldsServedLanes (net_of t) course.records lines (ours hosted course.came)
+      → HoldsServedLanes (net_of t) course.logs lines (ours hosted course.came)
   pub ordered : hosted ≡ numbers (length t.brokers) → IsHonestJournal [] (planned t hosted lines course)
       → IsInOrder t lines hosted course
 
@@ -138,13 +138,13 @@ pub record NotBegun (before after : Around) (status : ℕ) : Type 0 where
   pub memory : status ≡ 7
   pub same : after ≡ before
 
--- A lane of a publisher at these brokers holds no log: this one is the first, with the place of its fault
+-- The lanes of a publisher at these brokers hold no log: this one is the first, with the place of its fault
 pub record IsDamaged (t : TopologyView) (hosted : List ℕ) (lanes : ℕ → Lane) : Type 0 where
   pub publisher : ℕ
   pub at : ℕ
   pub first : IsFirstDamaged t hosted publisher at lanes
 
--- the lane of each publisher at these brokers holds a log
+-- the lanes of each publisher at these brokers hold a log
 abbrev pub AllRead : TopologyView → List ℕ → (ℕ → Lane) → Type 0
 AllRead t hosted lanes = (p : ℕ) → p < length t.publishers → is_hosted (net_of t) hosted p ≡ true
-    → IsOk (log_text t.late (content (lanes (2 * p))))
+    → IsOk (lanes_text t.late (content (lanes (2 * p))) (content (lanes (suc (2 * p)))))

@@ -87,6 +87,6 @@ IsWhole status = (status ≡ 0) ⊎ ((status ≡ 1) ⊎ ((status ≡ 2) ⊎ (sta
 abbrev pub IsCut : ℕ → Type 0
 IsCut status = (status ≡ 4) ⊎ (status ≡ 7)
 
--- a status that comes where a run was stopped: by the disk, by a lane that holds no log, or by the post
+-- a status that comes where a run was stopped: by the disk, by lanes that hold no log, or by the post
 abbrev pub IsStop : ℕ → Type 0
 IsStop status = (status ≡ 5) ⊎ ((status ≡ 6) ⊎ (status ≡ 8))

@@ -58,7 +58,7 @@ pub(crate) fn run<D: Disk, P: Paced, K: Sink>(
     }
 }
 
-/// Prints the line of a publisher whose lane holds no log, with the place of its fault. Gives the status 6, or 7 or 4
+/// Prints the line of a publisher whose lanes hold no log, with the place of the fault. Gives the status 6, or 7 or 4
 /// where that failed.
 fn print_damaged<K: Sink>(
     alloc: Global,

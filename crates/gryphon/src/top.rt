@@ -29,7 +29,7 @@ use std::alloc::Global;
 /// - 3: the source failed; the sink took nothing.
 /// - 4: the sink failed; it took a front of what was to be printed.
 /// - 5: the disk failed while brokers served; the sink took the lines of all calls before.
-/// - 6: the lane of a publisher at a broker that was to serve holds no log; the sink took the lines of all calls
+/// - 6: the lanes of a publisher at a broker that was to serve hold no log; the sink took the lines of all calls
 ///   before, and the line that names the publisher and the place.
 /// - 7: want of memory; the sink took a front of what was to be printed.
 /// - 8: the post failed while brokers served, or a client submitted; the sink took the lines of all calls before.
@@ -117,7 +117,7 @@ pub fn gryphon<S: Source, K: Sink, D: Disk, P: Paced>(
     ensures post_same { result ≡ 0 → P.faults post.new ≡ P.faults post.old }
     ensures complete { (result ≡ 3) ⊎ (IsWhole result ⊎ (IsCut result ⊎ IsStop result)) }
     // Where no fault was counted, the status is that of the answer, but for want of memory; that of brokers that serve
-    // is 0, but for a lane that holds no log and want of memory; and that of a client is 0, but for want of memory.
+    // is 0, but for lanes that hold no log and want of memory; and that of a client is 0, but for want of memory.
     ensures completeness { (Rose (S.faults source.old) (S.faults source.new) → ⊥)
         → (Rose (K.faults sink.old) (K.faults sink.new) → ⊥)
         → IfSome (answer_to (task_by (texts_of words.now)) (S.left source.old))
