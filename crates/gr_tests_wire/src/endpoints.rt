@@ -1,22 +1,23 @@
-//! Endpoints of publishers on lane 0 of a disk in memory, as scripts.
+//! Endpoints of publishers on the lanes 0 and 1 of a disk in memory, as scripts.
 
 ghost use Rattle.std.specs.Prelude.{OnOk};
 ghost use Rattle.gr_out.specs.Lane.{lane_at};
-ghost use Rattle.gr_publog.specs.Calls.{IsReady};
+ghost use Rattle.gr_publog.specs.Views.{lanes_at, IsReady};
 
 use crate::disks::disk_of;
-use crate::logs::{fill, put_counts, put_fault, put_runs};
+use crate::logs::{fill, put_counts, put_fault, put_runs, put_text};
 use crate::piece_text::{cut_numbers, event_of, put_known};
-use crate::script::{NEXT, first_word, put_bytes, put_op, two_numbers};
+use crate::script::{NEXT, cut_number, first_word, put_bytes, put_op, two_numbers};
 use gr_event::Event;
 use gr_out::MemDisk;
-use gr_pubend::{Pubend, Published, Quieted, plan, plan_quiet};
+use gr_pubend::{Cutting, Pubend, Published, Quieted, plan, plan_quiet};
 use gr_publog::LogFault;
-use gr_tests_rows::{Page, Stop, number};
+use gr_tests_rows::{Page, Stop};
 use gr_tick::MAX_TICK;
 use std::alloc::Global;
 
-/// Answers a script: `failing CALLS lane BYTES ; publish NUMBER NOW EVENT ; quiet NOW QUIET ; cut TICK ; known ; ..`.
+/// Answers a script: `failing CALLS lane BYTES ; publish NUMBER NOW EVENT ; quiet NOW QUIET ; known ; ..`.
+/// `cut TICK RECLAIM` cuts with this setting.
 pub fn calls(alloc: Global, row: &str, page: &mut Page) -> Result<(), Stop> {
     let Some((made, ops)) = row.split_once(NEXT) else {
         return Err(Stop::NoRow);
@@ -36,7 +37,7 @@ fn calls_on(
     ops: &str,
     page: &mut Page,
 ) -> Result<(), Stop> {
-    fill(alloc, disk, lane)?;
+    fill(alloc, disk, 0, lane)?;
     open(alloc, disk, ops, page)
 }
 
@@ -61,7 +62,7 @@ fn end_ops(
     ops: &str,
     page: &mut Page,
 ) -> Result<(), Stop>
-    requires stands { IsReady end.old.log (lane_at disk.old.lanes end.old.log.lane) }
+    requires stands { IsReady end.old.log (lanes_at (lane_at disk.old.lanes) end.old.log.lane) }
 {
     for op in ops.split(NEXT) {
         put_op(page, op);
@@ -79,8 +80,8 @@ fn end_op(
     op: &str,
     page: &mut Page,
 ) -> Result<(), Stop>
-    requires stands { IsReady end.old.log (lane_at disk.old.lanes end.old.log.lane) }
-    ensures stands { OnOk result (IsReady end.new.log (lane_at disk.new.lanes end.new.log.lane)) }
+    requires stands { IsReady end.old.log (lanes_at (lane_at disk.old.lanes) end.old.log.lane) }
+    ensures stands { OnOk result (IsReady end.new.log (lanes_at (lane_at disk.new.lanes) end.new.log.lane)) }
 {
     let (call, rest) = first_word(op);
     match call {
@@ -107,7 +108,9 @@ fn put_asked(
         "plan-quiet" => return put_plan_quiet(alloc, end, rest, page),
         "known" => put_runs(alloc, page, end.know()),
         "log" => put_counts(page, end.log()),
+        "text" => put_text(page, end.log()),
         "lane" => put_bytes(page, disk.lane(0)),
+        "second" => put_bytes(page, disk.lane(1)),
         _ => return Err(Stop::NoRow),
     }
     Ok(())
@@ -121,8 +124,8 @@ fn publish(
     rest: &str,
     page: &mut Page,
 ) -> Result<(), Stop>
-    requires stands { IsReady end.old.log (lane_at disk.old.lanes end.old.log.lane) }
-    ensures stands { OnOk result (IsReady end.new.log (lane_at disk.new.lanes end.new.log.lane)) }
+    requires stands { IsReady end.old.log (lanes_at (lane_at disk.old.lanes) end.old.log.lane) }
+    ensures stands { OnOk result (IsReady end.new.log (lanes_at (lane_at disk.new.lanes) end.new.log.lane)) }
 {
     let Some((number, now, text)) = cut_numbers(rest) else {
         return Err(Stop::NoRow);
@@ -141,8 +144,8 @@ fn publish_event(
     event: &Event,
     page: &mut Page,
 ) -> Result<(), Stop>
-    requires stands { IsReady end.old.log (lane_at disk.old.lanes end.old.log.lane) }
-    ensures stands { OnOk result (IsReady end.new.log (lane_at disk.new.lanes end.new.log.lane)) }
+    requires stands { IsReady end.old.log (lanes_at (lane_at disk.old.lanes) end.old.log.lane) }
+    ensures stands { OnOk result (IsReady end.new.log (lanes_at (lane_at disk.new.lanes) end.new.log.lane)) }
 {
     if now > MAX_TICK {
         return Err(Stop::NoRow);
@@ -205,8 +208,8 @@ fn log_event(
     rest: &str,
     page: &mut Page,
 ) -> Result<(), Stop>
-    requires stands { IsReady end.old.log (lane_at disk.old.lanes end.old.log.lane) }
-    ensures stands { OnOk result (IsReady end.new.log (lane_at disk.new.lanes end.new.log.lane)) }
+    requires stands { IsReady end.old.log (lanes_at (lane_at disk.old.lanes) end.old.log.lane) }
+    ensures stands { OnOk result (IsReady end.new.log (lanes_at (lane_at disk.new.lanes) end.new.log.lane)) }
 {
     let Some((number, now, text)) = cut_numbers(rest) else {
         return Err(Stop::NoRow);
@@ -224,8 +227,8 @@ fn log_planned(
     event: &Event,
     page: &mut Page,
 ) -> Result<(), Stop>
-    requires stands { IsReady end.old.log (lane_at disk.old.lanes end.old.log.lane) }
-    ensures stands { OnOk result (IsReady end.new.log (lane_at disk.new.lanes end.new.log.lane)) }
+    requires stands { IsReady end.old.log (lanes_at (lane_at disk.old.lanes) end.old.log.lane) }
+    ensures stands { OnOk result (IsReady end.new.log (lanes_at (lane_at disk.new.lanes) end.new.log.lane)) }
 {
     if now > MAX_TICK {
         return Err(Stop::NoRow);
@@ -251,8 +254,8 @@ fn quiet(
     rest: &str,
     page: &mut Page,
 ) -> Result<(), Stop>
-    requires stands { IsReady end.old.log (lane_at disk.old.lanes end.old.log.lane) }
-    ensures stands { OnOk result (IsReady end.new.log (lane_at disk.new.lanes end.new.log.lane)) }
+    requires stands { IsReady end.old.log (lanes_at (lane_at disk.old.lanes) end.old.log.lane) }
+    ensures stands { OnOk result (IsReady end.new.log (lanes_at (lane_at disk.new.lanes) end.new.log.lane)) }
 {
     let Some((now, quiet)) = two_numbers(rest) else {
         return Err(Stop::NoRow);
@@ -297,8 +300,8 @@ fn put_plan_quiet(alloc: Global, end: &Pubend, rest: &str, page: &mut Page) -> R
 
 /// Plans a mark, and logs it: `NOW QUIET`.
 fn log_mark(end: &mut Pubend, disk: &mut MemDisk, rest: &str, page: &mut Page) -> Result<(), Stop>
-    requires stands { IsReady end.old.log (lane_at disk.old.lanes end.old.log.lane) }
-    ensures stands { OnOk result (IsReady end.new.log (lane_at disk.new.lanes end.new.log.lane)) }
+    requires stands { IsReady end.old.log (lanes_at (lane_at disk.old.lanes) end.old.log.lane) }
+    ensures stands { OnOk result (IsReady end.new.log (lanes_at (lane_at disk.new.lanes) end.new.log.lane)) }
 {
     let Some((now, quiet)) = two_numbers(rest) else {
         return Err(Stop::NoRow);
@@ -319,20 +322,24 @@ fn log_mark(end: &mut Pubend, disk: &mut MemDisk, rest: &str, page: &mut Page) -
     Ok(())
 }
 
-/// Cuts up to a tick, where it may be cut.
+/// Cuts up to a tick, where it may be cut: `TICK RECLAIM`.
 fn cut(end: &mut Pubend, disk: &mut MemDisk, rest: &str, page: &mut Page) -> Result<(), Stop>
-    requires stands { IsReady end.old.log (lane_at disk.old.lanes end.old.log.lane) }
-    ensures stands { OnOk result (IsReady end.new.log (lane_at disk.new.lanes end.new.log.lane)) }
+    requires stands { IsReady end.old.log (lanes_at (lane_at disk.old.lanes) end.old.log.lane) }
+    ensures stands { OnOk result (IsReady end.new.log (lanes_at (lane_at disk.new.lanes) end.new.log.lane)) }
 {
-    let Ok(tick) = number(rest) else {
+    let Some((tick, word)) = cut_number(rest) else {
+        return Err(Stop::NoRow);
+    };
+    let Ok(reclaim) = word.parse::<u32>() else {
         return Err(Stop::NoRow);
     };
     if tick <= end.log().cut() || end.log().settled() < tick {
         page.push_str("may not be cut");
         return Ok(());
     }
-    match end.cut_to(disk, tick) {
-        Ok(()) => page.push_str("cut"),
+    match end.cut_to(disk, tick, reclaim) {
+        Ok(Cutting::Recorded) => page.push_str("cut"),
+        Ok(Cutting::Reclaimed { generation }) => write!(page, "reclaimed as {generation}"),
         Err(LogFault::Disk) => page.push_str("the disk failed"),
         Err(LogFault::Reopen) => page.push_str("reopen first"),
         Err(LogFault::Memory | LogFault::Damaged { .. }) => return Err(Stop::Memory),
@@ -342,8 +349,7 @@ fn cut(end: &mut Pubend, disk: &mut MemDisk, rest: &str, page: &mut Page) -> Res
 
 /// Calls the laws of endpoints, whose contracts they are.
 pub fn laws(page: &mut Page) {
-    gr_pubend::law::gate_ends_text();
-    gr_pubend::law::found_knows_all();
-    gr_pubend::law::found_is_settled();
+    gr_pubend::law::said_is_settled();
+    gr_pubend::law::said_goes_on();
     page.push_str("  hold\n");
 }

@@ -1,10 +1,10 @@
-//! Joins of late subscribers at the endpoint of a publisher on lane 0 of a disk in memory, as scripts.
+//! Joins of late subscribers at the endpoint of a publisher on the lanes 0 and 1 of a disk in memory, as scripts.
 
 ghost use Rattle.std.specs.Prelude.{◌≡◌, ◌≤◌, true, length, nat_eq};
 ghost use Rattle.gr_event.specs.declared.limits.TheConstants.{MAX_JOINS};
 ghost use Rattle.std.specs.List.{list_any};
 ghost use Rattle.gr_out.specs.Lane.{lane_at};
-ghost use Rattle.gr_publog.specs.Calls.{IsReady};
+ghost use Rattle.gr_publog.specs.Views.{lanes_at, IsReady};
 ghost use Rattle.gr_tick.specs.declared.TheConstants.{MAX_TICK};
 
 use crate::disks::disk_of;
@@ -54,7 +54,7 @@ fn calls_on(
     ops: &str,
     page: &mut Page,
 ) -> Result<(), Stop> {
-    fill(alloc, disk, lane)?;
+    fill(alloc, disk, 0, lane)?;
     for op in ops.split(NEXT) {
         join_op(alloc, disk, late, op, page)?;
         page.push('\n');
@@ -130,8 +130,8 @@ fn join_end(
     page: &mut Page,
 ) -> Result<(), Stop>
     requires now { now ≤ MAX_TICK }
-    requires late { list_any (λ x. nat_eq x subscriber) end.old.log.late ≡ true }
-    requires stands { IsReady end.old.log (lane_at disk.old.lanes end.old.log.lane) }
+    requires late { list_any (λ x. nat_eq x subscriber) end.old.log.state.late ≡ true }
+    requires stands { IsReady end.old.log (lanes_at (lane_at disk.old.lanes) end.old.log.lane) }
 {
     match call {
         "join" => join(alloc, end, disk, subscriber, now, page)?,
@@ -154,8 +154,8 @@ fn join(
     page: &mut Page,
 ) -> Result<(), Stop>
     requires now { now ≤ MAX_TICK }
-    requires late { list_any (λ x. nat_eq x subscriber) end.old.log.late ≡ true }
-    requires stands { IsReady end.old.log (lane_at disk.old.lanes end.old.log.lane) }
+    requires late { list_any (λ x. nat_eq x subscriber) end.old.log.state.late ≡ true }
+    requires stands { IsReady end.old.log (lanes_at (lane_at disk.old.lanes) end.old.log.lane) }
 {
     match end.join(disk, subscriber, now) {
         Ok(answer) => put_joined(alloc, page, &answer),
@@ -187,7 +187,7 @@ fn put_plan(
     page: &mut Page,
 ) -> Result<(), Stop>
     requires now { now ≤ MAX_TICK }
-    requires late { list_any (λ x. nat_eq x subscriber) end.now.log.late ≡ true }
+    requires late { list_any (λ x. nat_eq x subscriber) end.now.log.state.late ≡ true }
 {
     let answer = end.plan_join(subscriber, now)?;
     put_joined(alloc, page, &answer);
@@ -203,8 +203,8 @@ fn log_planned(
     page: &mut Page,
 ) -> Result<(), Stop>
     requires now { now ≤ MAX_TICK }
-    requires late { list_any (λ x. nat_eq x subscriber) end.old.log.late ≡ true }
-    requires stands { IsReady end.old.log (lane_at disk.old.lanes end.old.log.lane) }
+    requires late { list_any (λ x. nat_eq x subscriber) end.old.log.state.late ≡ true }
+    requires stands { IsReady end.old.log (lanes_at (lane_at disk.old.lanes) end.old.log.lane) }
 {
     let Joined::Logged { tick, fresh } = end.plan_join(subscriber, now)? else {
         page.push_str("not to be logged");

@@ -1,11 +1,12 @@
-//! Logs on lane 0 of a disk in memory, as scripts.
+//! Logs on the lanes 0 and 1 of a disk in memory, as scripts.
 //!
 //! A script has lives: what stands before the first `open` is done to the disk alone, and each `open` begins a life of
-//! the log, which ends at a `crash` or at the next `open`.
+//! the log, which ends at a `crash` or at the next `open`. An op on the first lane is `lane`, `stop` or `stopped`, and
+//! one on the second lane `second`, `stop-second` or `stopped-second`.
 
 ghost use Rattle.std.specs.Prelude.{◌≡◌, OnOk};
 ghost use Rattle.gr_out.specs.Lane.{lane_at};
-ghost use Rattle.gr_publog.specs.Calls.{IsReady};
+ghost use Rattle.gr_publog.specs.Views.{lanes_at, IsReady};
 
 use crate::disks::{disk_of, put_stopped, stop};
 use crate::frames::put_joins;
@@ -17,6 +18,7 @@ use gr_out::{Disk, MemDisk, SimDisk};
 use gr_pubend::known_by;
 use gr_publog::{Entry, Log, LogFault, Record};
 use gr_tests_rows::{Page, Stop, bytes, number};
+use gr_tick::MAX_TICK;
 use std::alloc::Global;
 
 /// What stands before a life.
@@ -105,7 +107,9 @@ fn live(
         Some((ops, after)) => {
             open(alloc, disk, late, ops, page)?;
             disk.crash(0);
-            put_lane(page, "crash", disk);
+            disk.crash(1);
+            put_lane(page, "crash", disk, 0);
+            put_lane(page, "second", disk, 1);
             lane_ops(alloc, disk, after, page)
         }
         None => open(alloc, disk, late, life, page),
@@ -177,14 +181,24 @@ fn put_entry(alloc: Global, page: &mut Page, entry: &Entry) {
     put_event(alloc, page, &entry.event);
 }
 
-/// Prints what the lane reads.
-fn put_lane(page: &mut Page, op: &str, disk: &MemDisk) {
+/// Prints what a lane reads.
+fn put_lane(page: &mut Page, op: &str, disk: &MemDisk, lane: u16) {
     put_op(page, op);
-    put_bytes(page, disk.lane(0));
+    put_bytes(page, disk.lane(lane));
     page.push('\n');
 }
 
-/// Carries out ops on the lane alone.
+/// What an op on a lane does, by its word, and to which of the two.
+fn lane_named(word: &str) -> (&str, u16) {
+    match word {
+        "second" => ("lane", 1),
+        "stop-second" => ("stop", 1),
+        "stopped-second" => ("stopped", 1),
+        _ => (word, 0),
+    }
+}
+
+/// Carries out ops on the lanes alone.
 fn lane_ops(alloc: Global, disk: &mut MemDisk, ops: &str, page: &mut Page) -> Result<(), Stop> {
     for op in ops.split(NEXT) {
         lane_op(alloc, disk, op, page)?;
@@ -192,43 +206,31 @@ fn lane_ops(alloc: Global, disk: &mut MemDisk, ops: &str, page: &mut Page) -> Re
     Ok(())
 }
 
-/// Carries out an op on the lane alone, if there is one.
+/// Carries out an op on a lane alone, if there is one.
 fn lane_op(alloc: Global, disk: &mut MemDisk, op: &str, page: &mut Page) -> Result<(), Stop> {
-    match op {
-        "" => Ok(()),
-        "lane" => {
-            put_lane(page, op, disk);
-            Ok(())
-        }
-        "stopped" => {
-            put_op(page, op);
-            put_stopped(disk, 0, page);
-            page.push('\n');
-            Ok(())
-        }
-        _ => lane_edit(alloc, disk, op, page),
+    if op.is_empty() {
+        return Ok(());
     }
-}
-
-/// Puts bytes on the lane, or orders a stop of it.
-fn lane_edit(alloc: Global, disk: &mut MemDisk, op: &str, page: &mut Page) -> Result<(), Stop> {
-    let (call, rest) = first_word(op);
+    let (word, rest) = first_word(op);
+    let (call, lane) = lane_named(word);
+    if call == "lane" && !rest.is_empty() {
+        return fill(alloc, disk, lane, rest);
+    }
+    put_op(page, op);
     match call {
-        "lane" => fill(alloc, disk, rest),
-        "stop" => {
-            put_op(page, op);
-            stop(disk, 0, rest, page)?;
-            page.push('\n');
-            Ok(())
-        }
-        _ => Err(Stop::NoRow),
+        "lane" => put_bytes(page, disk.lane(lane)),
+        "stopped" => put_stopped(disk, lane, page),
+        "stop" => stop(disk, lane, rest, page)?,
+        _ => return Err(Stop::NoRow),
     }
+    page.push('\n');
+    Ok(())
 }
 
-/// Puts bytes on the lane.
-pub fn fill(alloc: Global, disk: &mut MemDisk, lane: &str) -> Result<(), Stop> {
-    let bytes = bytes(alloc, lane)?;
-    Ok(disk.put(0, &bytes)?)
+/// Puts bytes on a lane.
+pub fn fill(alloc: Global, disk: &mut MemDisk, lane: u16, text: &str) -> Result<(), Stop> {
+    let bytes = bytes(alloc, text)?;
+    Ok(disk.put(lane, &bytes)?)
 }
 
 /// Carries out the ops of a life.
@@ -240,7 +242,7 @@ fn log_ops(
     page: &mut Page,
 ) -> Result<(), Stop>
     requires lane { log.old.lane ≡ 0 }
-    requires stands { IsReady log.old (lane_at disk.old.lanes 0) }
+    requires stands { IsReady log.old (lanes_at (lane_at disk.old.lanes) 0) }
 {
     for op in ops.split(NEXT) {
         if !op.is_empty() {
@@ -261,14 +263,16 @@ fn log_op(
     page: &mut Page,
 ) -> Result<(), Stop>
     requires lane { log.old.lane ≡ 0 }
-    requires stands { IsReady log.old (lane_at disk.old.lanes 0) }
+    requires stands { IsReady log.old (lanes_at (lane_at disk.old.lanes) 0) }
     ensures lane { OnOk result (log.new.lane ≡ 0) }
-    ensures stands { OnOk result (IsReady log.new (lane_at disk.new.lanes 0)) }
+    ensures stands { OnOk result (IsReady log.new (lanes_at (lane_at disk.new.lanes) 0)) }
 {
     let (call, rest) = first_word(op);
     match call {
-        "stop" => order(log, disk, rest, page),
+        "stop" => order(log, disk, false, rest, page),
+        "stop-second" => order(log, disk, true, rest, page),
         "event" | "mark" | "cut" | "join" => log_record(alloc, log, disk, call, rest, page),
+        "reclaim" => reclaim(log, disk, rest, page),
         _ => put_asked(alloc, log, disk, call, rest, page),
     }
 }
@@ -284,28 +288,57 @@ fn put_asked(
 ) -> Result<(), Stop> {
     match call {
         "says" => put_state(alloc, page, log),
+        "text" => put_text(page, log),
         "known" => put_known(alloc, page, log),
         "lane" => put_bytes(page, disk.lane(0)),
+        "second" => put_bytes(page, disk.lane(1)),
         "stopped" => put_stopped(disk, 0, page),
+        "stopped-second" => put_stopped(disk, 1, page),
         "follows" => return put_follows(alloc, log, rest, page),
         _ => return Err(Stop::NoRow),
     }
     Ok(())
 }
 
-/// Orders a stop: `CALLS PICK`.
-fn order(log: &Log, disk: &mut MemDisk, rest: &str, page: &mut Page) -> Result<(), Stop>
+/// Orders a stop of the first lane or of the second one: `CALLS PICK`.
+fn order(
+    log: &Log,
+    disk: &mut MemDisk,
+    second: bool,
+    rest: &str,
+    page: &mut Page,
+) -> Result<(), Stop>
     requires lane { log.now.lane ≡ 0 }
-    requires stands { IsReady log.now (lane_at disk.old.lanes 0) }
-    ensures stands { OnOk result (IsReady log.now (lane_at disk.new.lanes 0)) }
+    requires stands { IsReady log.now (lanes_at (lane_at disk.old.lanes) 0) }
+    ensures stands { OnOk result (IsReady log.now (lanes_at (lane_at disk.new.lanes) 0)) }
 {
     let _ = log.is_broken();
     let Some((calls, pick)) = two_bytes(rest) else {
         return Err(Stop::NoRow);
     };
+    page.push_str("ordered");
+    stop_lane(log, disk, second, calls, pick)
+}
+
+/// Orders a stop of the first lane or of the second one.
+pub fn stop_lane(
+    log: &Log,
+    disk: &mut MemDisk,
+    second: bool,
+    calls: u8,
+    pick: u8,
+) -> Result<(), Stop>
+    requires stands { IsReady log.now (lanes_at (lane_at disk.old.lanes) 0) }
+    ensures stands { OnOk result (IsReady log.now (lanes_at (lane_at disk.new.lanes) 0)) }
+{
+    let _ = log.is_broken();
+    if second {
+        disk.reserve(1, 0)?;
+        disk.stop_after(1, calls, pick);
+        return Ok(());
+    }
     disk.reserve(0, 0)?;
     disk.stop_after(0, calls, pick);
-    page.push_str("ordered");
     Ok(())
 }
 
@@ -374,9 +407,9 @@ fn log_record(
     page: &mut Page,
 ) -> Result<(), Stop>
     requires lane { log.old.lane ≡ 0 }
-    requires stands { IsReady log.old (lane_at disk.old.lanes 0) }
+    requires stands { IsReady log.old (lanes_at (lane_at disk.old.lanes) 0) }
     ensures lane { OnOk result (log.new.lane ≡ 0) }
-    ensures stands { OnOk result (IsReady log.new (lane_at disk.new.lanes 0)) }
+    ensures stands { OnOk result (IsReady log.new (lanes_at (lane_at disk.new.lanes) 0)) }
 {
     let entry = record_of(alloc, kind, rest)?;
     append(log, disk, &entry, page)
@@ -385,9 +418,9 @@ fn log_record(
 /// Appends a record, where it may follow.
 fn append(log: &mut Log, disk: &mut MemDisk, entry: &Record, page: &mut Page) -> Result<(), Stop>
     requires lane { log.old.lane ≡ 0 }
-    requires stands { IsReady log.old (lane_at disk.old.lanes 0) }
+    requires stands { IsReady log.old (lanes_at (lane_at disk.old.lanes) 0) }
     ensures lane { OnOk result (log.new.lane ≡ 0) }
-    ensures stands { OnOk result (IsReady log.new (lane_at disk.new.lanes 0)) }
+    ensures stands { OnOk result (IsReady log.new (lanes_at (lane_at disk.new.lanes) 0)) }
 {
     if !log.may_follow(entry) {
         page.push_str("may not follow");
@@ -400,6 +433,33 @@ fn append(log: &mut Log, disk: &mut MemDisk, entry: &Record, page: &mut Page) ->
         Err(LogFault::Memory | LogFault::Damaged { .. }) => return Err(Stop::Memory),
     }
     Ok(())
+}
+
+/// Cuts the log at a tick by writing it anew, where it may.
+fn reclaim(log: &mut Log, disk: &mut MemDisk, rest: &str, page: &mut Page) -> Result<(), Stop>
+    requires lane { log.old.lane ≡ 0 }
+    requires stands { IsReady log.old (lanes_at (lane_at disk.old.lanes) 0) }
+    ensures lane { OnOk result (log.new.lane ≡ 0) }
+    ensures stands { OnOk result (IsReady log.new (lanes_at (lane_at disk.new.lanes) 0)) }
+{
+    let tick = number(rest)?;
+    if tick <= log.cut() || log.settled() < tick || log.generation() >= MAX_TICK {
+        page.push_str("may not reclaim");
+        return Ok(());
+    }
+    match log.reclaim(disk, tick) {
+        Ok(generation) => write!(page, "reclaimed as {generation}"),
+        Err(LogFault::Disk) => page.push_str("the disk failed"),
+        Err(LogFault::Reopen) => page.push_str("reopen first"),
+        Err(LogFault::Memory | LogFault::Damaged { .. }) => return Err(Stop::Memory),
+    }
+    Ok(())
+}
+
+/// Prints how long the text of the present lane is, and its generation.
+pub fn put_text(page: &mut Page, log: &Log) {
+    write!(page, "{} bytes", log.text_size());
+    write!(page, " of generation {}", log.generation());
 }
 
 /// Prints what is known by a log.
@@ -455,6 +515,7 @@ fn is_logged(alloc: Global, disk: &mut MemDisk) -> Result<bool, Stop> {
         return Err(Stop::NoRow);
     }
     disk.crash(0);
+    disk.crash(1);
     match Log::open(alloc, disk, 0, &[]) {
         Ok(log) => Ok(log.last() == 1),
         Err(_) => Err(Stop::NoRow),
@@ -472,7 +533,7 @@ fn append_stopped(
     let Ok(mut log) = Log::open(alloc, disk, 0, &[]) else {
         return Err(Stop::NoRow);
     };
-    disk.stop_after(0, call, pick);
+    stop_lane(&log, disk, false, call, pick)?;
     if !log.may_follow(entry) {
         return Err(Stop::NoRow);
     }
@@ -487,7 +548,11 @@ pub fn laws(page: &mut Page) {
     gr_out::law::may_leave_what_it_reads();
     gr_publog::law::reads_what_is_spelled();
     gr_publog::law::spells_what_is_read();
-    gr_publog::law::spells_one_list();
+    gr_publog::law::holds_what_is_found();
+    gr_publog::law::stays_a_state();
+    gr_publog::law::stands_for();
+    gr_publog::law::stands_read();
+    gr_publog::law::stands_found();
     gr_publog::law::last_tick_of_logs();
     page.push_str("  hold\n");
 }

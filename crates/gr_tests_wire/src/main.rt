@@ -10,6 +10,7 @@ mod endpoints;
 mod frame_stores;
 mod frames;
 mod joining;
+mod log_stops;
 mod logs;
 mod notes;
 mod outside;
@@ -58,6 +59,7 @@ fn call(alloc: Global, row: &str, page: &mut Page) -> Result<(), Stop> {
         "post" => posts::calls(alloc, rest, page),
         "log" => logs::lives(alloc, rest, page),
         "log-picks" => logs::picks(alloc, rest, page),
+        "log-stops" => log_stops::answer(alloc, rest, page),
         "endpoint" => endpoints::calls(alloc, rest, page),
         "endpoint-joins" => joining::calls(alloc, rest, page),
         _ => call_above(alloc, family, rest, page),
