@@ -341,14 +341,15 @@ fn keep_lane(alloc: Global, texts: &mut Texts, lane: &[u8], page: &mut Page) -> 
     texts.put(alloc, "lane", Vec::from_slice(alloc, lane)?)
 }
 
-/// The row `picks CALL`: a publish that is stopped inside at that call of the disk, and then made again, with each pick
-/// of what the stop leaves. The report is the text `kept` or the text `lost`; prints for which picks it is `kept`, and
-/// how many leave `lost`.
+/// The row `picks NUMBER CALL`: the first publish, or the second one, is stopped inside at that call of the disk, and
+/// then made again, with each pick of what the stop leaves. The report is the text `kept` or the text `lost`; prints
+/// for which picks it is `kept`, and how many leave `lost`.
 fn picks(alloc: Global, texts: &Texts, row: &str, page: &mut Page) -> Result<(), Stop> {
+    let (number, call) = parted(row, " ")?;
     let mut lost = 0u64;
     page.push_str("  kept at");
     for pick in 0..256u64 {
-        let report = stopped(alloc, row, pick)?;
+        let report = stopped(alloc, number, call, pick)?;
         if put_pick(texts, pick, report.as_slice(), page) {
             lost = lost.wrapping_add(1);
         }
@@ -372,19 +373,32 @@ fn put_pick(texts: &Texts, pick: u64, report: &[u8], page: &mut Page) -> bool {
 }
 
 /// The report of a publish that is stopped, and of one that follows it.
-fn stopped(alloc: Global, call: &str, pick: u64) -> Result<Vec<u8>, Stop> {
-    let text = stopping(alloc, call, pick)?;
+fn stopped(alloc: Global, number: &str, call: &str, pick: u64) -> Result<Vec<u8>, Stop> {
+    let text = stopping(alloc, number, call, pick)?;
     report_of(alloc, text.as_bytes())
 }
 
-/// A scenario with a publish that is stopped, and one that follows it.
-fn stopping(alloc: Global, call: &str, pick: u64) -> Result<String, AllocError> {
+/// A scenario with a publish that is stopped, and one that follows it. Before the second publish the first is logged.
+fn stopping(alloc: Global, number: &str, call: &str, pick: u64) -> Result<String, AllocError> {
     let mut page = Page::new(alloc);
-    page.push_str("---\nclock 1000\npublish P 1 stop ");
+    page.push_str("---\nclock 1000\n");
+    if number == "2" {
+        page.push_str("publish P 1 {\"no\":1}\n");
+    }
+    put_publish(number, &mut page);
+    page.push_str(" stop ");
     page.push_str(call);
     put_counted(" pick ", pick, &mut page);
-    page.push_str(" {\"n\":1}\npublish P 1 {\"n\":1}\n");
+    page.push_str(" {\"n\":1}\n");
+    put_publish(number, &mut page);
+    page.push_str(" {\"n\":1}\n");
     page.finish()
+}
+
+/// The first words of a publish.
+fn put_publish(number: &str, page: &mut Page) {
+    page.push_str("publish P ");
+    page.push_str(number);
 }
 
 /// What a replay of a scenario reports.

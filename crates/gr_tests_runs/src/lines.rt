@@ -55,6 +55,7 @@ fn put_line(line: &Report, page: &mut Page) {
         Report::Lost { number, tick, .. } => put_two(" lost ", *number, *tick, page),
         Report::Mark { tick, .. } => put_counted(" mark ", *tick, page),
         Report::Cut { tick, .. } => put_counted(" cut ", *tick, page),
+        Report::Reclaimed { generation, .. } => put_counted(" reclaimed ", *generation, page),
         Report::Got {
             subscriber,
             tick,

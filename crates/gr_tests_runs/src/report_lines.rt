@@ -20,7 +20,7 @@ pub fn report(alloc: Global, line: &str) -> Result<Report, Stop>
     match word {
         "logged" | "already" | "gap" | "exhausted" => publish_line(word, rest),
         "joined" | "already-joined" | "exhausted-join" => join_line(word, rest),
-        "kept" | "lost" | "mark" | "cut" => stop_line(word, rest),
+        "kept" | "lost" | "mark" | "cut" | "reclaimed" => stop_line(word, rest),
         "opened" | "log" | "damaged" => log_line(word, rest),
         "sent-know" | "sent-want" | "sent-expect" => sent_line(alloc, word, sent_frame(rest)?),
         "got" | "horizon" | "doubt" => got_line(alloc, word, rest),
@@ -155,6 +155,10 @@ fn stop_line(word: &str, rest: &str) -> Result<Report, Stop>
         "mark" => Ok(Report::Mark {
             publisher: 0,
             tick: single(rest)?,
+        }),
+        "reclaimed" => Ok(Report::Reclaimed {
+            publisher: 0,
+            generation: single(rest)?,
         }),
         _ => Ok(Report::Cut {
             publisher: 0,
