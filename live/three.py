@@ -49,6 +49,7 @@ gap = 20
 idle = 100
 retry = 40
 quiet = 200
+reclaim = 4096
 
 [addresses]
 A = "127.0.0.1:{A}"

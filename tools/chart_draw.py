@@ -8,7 +8,7 @@ LEFT, COLUMN, ROW, LETTER = 280, 270, 22, 6.05
 COLOURS = {'know': '#1f5fa8', 'want': '#9a5800', 'expect': '#6b3fa0', 'lost': '#b3202c', 'again': '#666666',
            'got': '#1b7a3d', 'ordered': '#00696f', 'crashed': '#b3202c', 'refused': '#b3202c', 'dropped': '#b3202c',
            'exhausted': '#b3202c', 'gap': '#b3202c', 'damaged': '#b3202c', 'horizon': '#1b7a3d', 'cut': '#6b3fa0',
-           'kept': '#1b7a3d', 'wake': '#666666'}
+           'reclaimed': '#6b3fa0', 'kept': '#1b7a3d', 'wake': '#666666'}
 LEGEND = (('know', 'know: what is known of ticks; S silence, D an event, F final'),
           ('want', 'want: C ticks that are asked for, A ticks that are acknowledged'),
           ('expect', 'expect: all up to this tick is to be asked for'),

@@ -16,9 +16,9 @@ NUMBER = re.compile(r'[0-9]{1,19}\Z')
 # the rest.
 STEPS = ('clock n', 'publish P n *', 'wake B', 'deliver n', 'crash B', 'join S P', 'sweep', 'show', 'bytes n')
 LINES = ('logged P n n', 'already P n', 'gap P n next n', 'exhausted P n', 'kept P n n', 'lost P n n', 'mark P n',
-         'cut P n', 'joined S P n', 'already-joined S P', 'exhausted-join S P', 'opened P last n settled n cut n',
-         'got S P n *', 'horizon S P n', 'ordered S P n *', 'sent n B B know P *', 'sent n B B want P *',
-         'sent n B B expect P n', 'crashed B', 'swept n', 'refused line n hosts-subscriber B',
+         'cut P n', 'reclaimed P n', 'joined S P n', 'already-joined S P', 'exhausted-join S P',
+         'opened P last n settled n cut n', 'got S P n *', 'horizon S P n', 'ordered S P n *', 'sent n B B know P *',
+         'sent n B B want P *', 'sent n B B expect P n', 'crashed B', 'swept n', 'refused line n hosts-subscriber B',
          'refused line n no-frame n of n', 'refused line n clock-range n', 'frames n',
          'log P last n settled n cut n kept n', 'doubt B P n', 'bytes n *', 'dropped B *', 'damaged P n')
 

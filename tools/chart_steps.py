@@ -182,7 +182,11 @@ class Run:
     def of_wake(self, line):
         broker = self.step.args[0]
         if line.word in ('mark', 'cut'):
-            return self.topology.hosts[line.args[0]] == broker and all(one.args != line.args for one in self.taken)
+            own = self.topology.hosts[line.args[0]] == broker
+            return own and all((one.word, one.args) != (line.word, line.args) for one in self.taken)
+        if line.word == 'reclaimed':
+            last = self.taken[-1] if self.taken else None
+            return last is not None and last.word == 'cut' and last.args[0] == line.args[0]
         if line.word in ('got', 'horizon') or line.word == 'sent' and line.args[5] == 'know':
             publisher = line.args[1] if line.word != 'sent' else line.args[3]
             return publisher in self.fresh and self.learned(line, broker, publisher)
