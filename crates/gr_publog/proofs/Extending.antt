@@ -1,12 +1,13 @@
 -- What each way out of an append, and of a filling, has done to the lane
 use Rattle.std.proofs.Common.{◌≡◌, ◌⊎◌, inl, inr, ℕ, ◌+◌, ◌≤◌, true, false, List, Ok, Err, refl, ap, sym, ◌∙◌, subst, arith}
-use Rattle.gr_out.specs.declared.disk.Stop.TheVariants.{Unset, After}
+use Rattle.gr_out.specs.declared.disk.Stop.TheVariants.{After}
 use Rattle.gr_out.specs.Lane.{Lane, Call, content, moment, crash_image, has_stopped, MayLeave, LeftSince, LeavesOnly, with_room}
 use Rattle.gr_publog.specs.declared.record.LogFault.TheVariants as fault
 use Rattle.gr_publog.specs.declared.steps.Aside.{Aside}
 use Rattle.gr_publog.specs.Rewrite.{IsShut, filled}
 use Rattle.gr_publog.specs.Crash.{behind_gate, opened_gate, IsBetween, Broke, StoppedImage}
 use Rattle.gr_publog.specs.Steps.{append_calls, rewriting_calls, GoesOn, Extends, Refills}
+use Rattle.gr_publog.specs.Uses.{KeepsCalls}
 use Rattle.gr_publog.proofs.Moments.{only_now}
 use Rattle.gr_publog.proofs.Onward.{goes_on_same, goes_on_room, goes_on_then}
 
@@ -56,12 +57,10 @@ module _ {T : Type 0} (before after : Lane) (only : LeavesOnly before (content b
 pub record IsPut (gate : ℕ) (bytes text : List ℕ) (before mid after : Lane) (n : ℕ) : Type 0 where
   pub room : mid ≡ with_room n before
   pub text_is : bytes ≡ text
-  pub on : GoesOn mid after
+  pub keeps : KeepsCalls mid after
   pub any_moment : (image : List ℕ) → LeftSince after (moment mid) image → IsBetween gate bytes (content mid) image
   pub picked : (call pick : ℕ) → Broke mid after call pick → StoppedImage gate bytes (content mid) call pick (crash_image after)
   pub left : mid.left ≤ after.left + 4
-  pub reserved : after.reserved ≡ mid.reserved
-  pub unset : mid.stop ≡ Unset → after.stop ≡ Unset
 
 module _ (gate : ℕ) (bytes text : List ℕ) (before mid after : Lane) (n : ℕ) (a : IsPut gate bytes text before mid after n) where
   images : (image : List ℕ) → LeftSince after (moment before) image → (image ≡ content before) ⊎ IsBetween gate text (content before) image
@@ -76,7 +75,7 @@ module _ (gate : ℕ) (bytes text : List ℕ) (before mid after : Lane) (n : ℕ
       (subst (λ (c : List ℕ). StoppedImage gate bytes c call pick (crash_image after)) (ap content a.room) (a.picked call pick one))
 
   onward : GoesOn before after
-  onward = goes_on_then before mid after (goes_on_room n before mid a.room) a.on
+  onward = goes_on_then before mid after (goes_on_room n before mid a.room) a.keeps.goes_on
 
   pub extends_failed : {T : Type 0} → Extends {T = T} gate text before after (Err fault.Disk)
   extends_failed = record {
@@ -89,8 +88,8 @@ module _ (gate : ℕ) (bytes text : List ℕ) (before mid after : Lane) (n : ℕ
     picked = picks;
     untouched = λ h. absurd (cc h);
     few = λ h. omega (arith, a.left, ap (λ (x : Lane). x.left) a.room);
-    reserved = λ h. a.reserved ∙ ap (λ (x : Lane). x.reserved) a.room;
-    unset = λ h. a.unset (ap (λ (x : Lane). x.stop) a.room ∙ h);
+    reserved = λ h. a.keeps.reserved ∙ ap (λ (x : Lane). x.reserved) a.room;
+    unset = λ h. a.keeps.unset (ap (λ (x : Lane). x.stop) a.room ∙ h);
   }
 
   pub extends_ok : {T : Type 0} (x : T) → content after ≡ opened_gate gate (behind_gate gate bytes (content mid)) → LeavesOnly after (content after) → after.calls ≡ append_calls gate bytes mid.calls
@@ -105,8 +104,8 @@ module _ (gate : ℕ) (bytes text : List ℕ) (before mid after : Lane) (n : ℕ
     picked = picks;
     untouched = λ h. absurd (cc h);
     few = λ h. absurd (cc h);
-    reserved = λ h. a.reserved ∙ ap (λ (x : Lane). x.reserved) a.room;
-    unset = λ h. a.unset (ap (λ (x : Lane). x.stop) a.room ∙ h);
+    reserved = λ h. a.keeps.reserved ∙ ap (λ (x : Lane). x.reserved) a.room;
+    unset = λ h. a.keeps.unset (ap (λ (x : Lane). x.stop) a.room ∙ h);
   }
 
 -- What is known where a lane was to be closed and filled, in the room that was made.
@@ -114,11 +113,9 @@ pub record IsRewritten (body text : List ℕ) (before mid after : Lane) (n : ℕ
   pub sole : LeavesOnly before (content before)
   pub room : mid ≡ with_room n before
   pub text_is : body ≡ text
-  pub on : GoesOn mid after
+  pub keeps : KeepsCalls mid after
   pub any_moment : (n : ℕ) (image : List ℕ) → LeftSince after n image → LeftSince mid n image ⊎ ((image ≡ content mid) ⊎ (IsShut image ⊎ (image ≡ filled body (content mid))))
   pub left : mid.left ≤ after.left + 8
-  pub reserved : after.reserved ≡ mid.reserved
-  pub unset : mid.stop ≡ Unset → after.stop ≡ Unset
 
 module _ (body text : List ℕ) (before mid after : Lane) (n : ℕ) (r : IsRewritten body text before mid after n) where
   outcomes : (image : List ℕ) → LeftSince after (moment before) image → (image ≡ content before) ⊎ (IsShut image ⊎ (image ≡ filled text (content before)))
@@ -130,7 +127,7 @@ module _ (body text : List ℕ) (before mid after : Lane) (n : ℕ) (r : IsRewri
   ]
 
   onward_too : GoesOn before after
-  onward_too = goes_on_then before mid after (goes_on_room n before mid r.room) r.on
+  onward_too = goes_on_then before mid after (goes_on_room n before mid r.room) r.keeps.goes_on
 
   pub refills_failed : {T : Type 0} (aside : Aside) → Refills {T = T} aside text before after (Err fault.Disk)
   refills_failed aside = record {
@@ -141,9 +138,9 @@ module _ (body text : List ℕ) (before mid after : Lane) (n : ℕ) (r : IsRewri
     any_moment = outcomes;
     untouched = λ h. absurd (cc h);
     few = λ h. omega (arith, r.left, ap (λ (x : Lane). x.left) r.room);
-    reserved = λ h. r.reserved ∙ ap (λ (x : Lane). x.reserved) r.room;
+    reserved = λ h. r.keeps.reserved ∙ ap (λ (x : Lane). x.reserved) r.room;
     ready = tt;
-    unset = λ h. r.unset (ap (λ (x : Lane). x.stop) r.room ∙ h);
+    unset = λ h. r.keeps.unset (ap (λ (x : Lane). x.stop) r.room ∙ h);
   }
 
   pub refills_ok : {T : Type 0} (x : T) (aside : Aside) → content after ≡ filled body (content mid) → LeavesOnly after (content after) → after.calls ≡ rewriting_calls aside body mid.calls
@@ -156,7 +153,7 @@ module _ (body text : List ℕ) (before mid after : Lane) (n : ℕ) (r : IsRewri
     any_moment = outcomes;
     untouched = λ h. absurd (cc h);
     few = λ h. absurd (cc h);
-    reserved = λ h. r.reserved ∙ ap (λ (x : Lane). x.reserved) r.room;
-    ready = r.reserved ∙ ap (λ (x : Lane). x.reserved) r.room;
-    unset = λ h. r.unset (ap (λ (x : Lane). x.stop) r.room ∙ h);
+    reserved = λ h. r.keeps.reserved ∙ ap (λ (x : Lane). x.reserved) r.room;
+    ready = r.keeps.reserved ∙ ap (λ (x : Lane). x.reserved) r.room;
+    unset = λ h. r.keeps.unset (ap (λ (x : Lane). x.stop) r.room ∙ h);
   }

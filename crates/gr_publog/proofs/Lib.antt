@@ -16,6 +16,7 @@ pub mod Onward
 pub mod Putting
 pub mod Appending
 pub mod Stopping
+pub mod Keeping
 pub mod Crash
 pub mod Presence
 pub mod Calling

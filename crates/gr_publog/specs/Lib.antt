@@ -9,3 +9,4 @@ pub mod Steps
 pub mod Views
 pub mod Calls
 pub mod Opens
+pub mod Uses

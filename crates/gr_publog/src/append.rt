@@ -1,14 +1,12 @@
 //! A record is put behind the gate of a lane.
 
-ghost use Rattle.std.specs.Prelude.{◌≡◌, ◌≢◌, ◌⊎◌, ℕ, ◌+◌, ◌<◌, ◌≤◌, ◌++◌, ◌∷◌, [], true, length};
-ghost use Rattle.std.specs.Prelude.{IsErrOf, IfOk};
-ghost use Rattle.gr_out.specs.Faults.{Rose};
-ghost use Rattle.gr_out.specs.Lane.{content, has_stopped, LeavesOnly};
-ghost use Rattle.gr_out.specs.Stops.{StaysFaultless};
+ghost use Rattle.std.specs.Prelude.{◌≡◌, ◌+◌, ◌<◌, ◌++◌, ◌∷◌, [], length, IfOk};
+ghost use Rattle.gr_out.specs.Lane.{content};
 ghost use Rattle.gr_publog.specs.State.{IsSound};
 ghost use Rattle.gr_publog.specs.Text.{record_bytes, record_size};
-ghost use Rattle.gr_publog.specs.Crash.{GaveUp, DiskRose, NotFailed};
+ghost use Rattle.gr_publog.specs.Crash.{GaveUp};
 ghost use Rattle.gr_publog.specs.Steps.{Extends};
+ghost use Rattle.gr_publog.specs.Uses.{IsSoleOn, ChangesLane};
 
 use crate::record::{LogFault, Memory, Record};
 use crate::steps::append_behind;
@@ -91,22 +89,12 @@ pub(crate) fn append_at<D: Disk>(
     entry: &Record,
 ) -> Result<u64, LogFault>
     requires within { D.tells → gate < length (content (D.lane_of disk.old lane)) }
-    requires only { let l = D.lane_of disk.old lane in D.tells → LeavesOnly l (content l) }
+    requires only { IsSoleOn D.tells (D.lane_of disk.old lane) }
     ensures extends { let l = D.lane_of disk.old lane in
         D.tells → Extends gate (record_bytes entry.now ++ 0 ∷ []) l (D.lane_of disk.new lane) result }
     ensures size { IfOk result (λ n. n ≡ gate + 2 + record_size entry.now) }
-    ensures others { D.tells → (n : ℕ) → n ≢ lane → D.lane_of disk.new n ≡ D.lane_of disk.old n }
     ensures gave_up { GaveUp result }
-    ensures faults { D.faults disk.old ≤ D.faults disk.new }
-    ensures stops { D.stops disk.old ≤ D.stops disk.new }
-    ensures same { NotFailed result → (D.faults disk.new ≡ D.faults disk.old) × (D.stops disk.new ≡ D.stops disk.old) }
-    ensures disk { DiskRose result (D.faults disk.old) (D.faults disk.new) (D.stops disk.old) (D.stops disk.new) }
-    ensures why { D.tells → IsErrOf result LogFault.Disk →
-        (has_stopped (D.lane_of disk.new lane).stop ≡ true) ⊎ Rose (D.faults disk.old) (D.faults disk.new) }
-    ensures by_stop { D.tells → D.faultless disk.old → IsErrOf result LogFault.Disk →
-        has_stopped (D.lane_of disk.new lane).stop ≡ true }
-    ensures faultless { let f = D.faults disk.old in
-        StaysFaultless (D.faultless disk.old) (D.faultless disk.new) f (D.faults disk.new) }
+    ensures uses { ChangesLane D.tells D.faultless D.lane_of D.faults D.stops lane disk.old disk.new result }
 {
     let bytes = match record_text(alloc, entry) {
         Ok(bytes) => bytes,

@@ -1,20 +1,19 @@
 //! What a lane is filled with, from place 6 on.
 
-ghost use Rattle.std.specs.Prelude.{◌≡◌, ◌≢◌, ◌⊎◌, ℕ, ◌+◌, ◌-◌, ◌^◌, ◌<◌, ◌≤◌, ◌∷◌, ◌++◌, [], length, drop};
-ghost use Rattle.std.specs.Prelude.{filter, nat_lt, max, take, slice_index_or, true, OnOk, IfOk, IsErrOf};
+ghost use Rattle.std.specs.Prelude.{◌≡◌, ◌+◌, ◌-◌, ◌^◌, ◌<◌, ◌≤◌, ◌∷◌, ◌++◌, [], length, drop};
+ghost use Rattle.std.specs.Prelude.{filter, nat_lt, max, take, slice_index_or, OnOk, IfOk};
 ghost use Rattle.std.specs.Int.{to_be_bytes, w16, w32, w64};
 ghost use Rattle.gr_event.specs.declared.limits.TheConstants.{MAX_JOINS};
 ghost use Rattle.gr_event.specs.Joins.{JoinsRise};
-ghost use Rattle.gr_out.specs.Faults.{Rose};
-ghost use Rattle.gr_out.specs.Lane.{content, has_stopped, LeavesOnly};
-ghost use Rattle.gr_out.specs.Stops.{StaysFaultless};
+ghost use Rattle.gr_out.specs.Lane.{content};
 ghost use Rattle.gr_publog.specs.declared.record.Record.TheVariants.{Cut, Join as Joined};
 ghost use Rattle.gr_publog.specs.State.{held_by, stands_after, EntriesRise, Apart, IsState};
 ghost use Rattle.gr_publog.specs.Text.{record_bytes, joins_bytes, base_bytes, based, blocks};
 ghost use Rattle.gr_publog.specs.Filled.{joins_upto, joins_past, joins_below, joins_from, joined, logged, in_order};
 ghost use Rattle.gr_publog.specs.Filled.{last_event, marked, body_of, filled_size};
-ghost use Rattle.gr_publog.specs.Crash.{GaveUp, DiskRose, NotFailed};
+ghost use Rattle.gr_publog.specs.Crash.{GaveUp};
 ghost use Rattle.gr_publog.specs.Steps.{StandsAs, Refills};
+ghost use Rattle.gr_publog.specs.Uses.{IsSoleOn, ChangesLane};
 
 use crate::footing::Footing;
 use crate::read::last_tick;
@@ -266,23 +265,13 @@ pub(crate) fn refill<D: Disk>(
     requires from { from ≤ length entries.now.items }
     requires state { IsState (held_by (stands_after footing.now (Cut cut)) (drop from entries.now.items)) }
     requires aside { D.tells → StandsAs aside (content (D.lane_of disk.old lane)) }
-    requires only { let l = D.lane_of disk.old lane in D.tells → LeavesOnly l (content l) }
+    requires only { IsSoleOn D.tells (D.lane_of disk.old lane) }
     ensures refills { let s = held_by (stands_after footing.now (Cut cut)) (drop from entries.now.items) in D.tells →
         Refills aside (body_of s generation) (D.lane_of disk.old lane) (D.lane_of disk.new lane) result }
     ensures size { let s = held_by (stands_after footing.now (Cut cut)) (drop from entries.now.items) in
         IfOk result (λ n. n ≡ filled_size s) }
-    ensures others { D.tells → (n : ℕ) → n ≢ lane → D.lane_of disk.new n ≡ D.lane_of disk.old n }
     ensures gave_up { GaveUp result }
-    ensures faults { D.faults disk.old ≤ D.faults disk.new }
-    ensures stops { D.stops disk.old ≤ D.stops disk.new }
-    ensures same { NotFailed result → (D.faults disk.new ≡ D.faults disk.old) × (D.stops disk.new ≡ D.stops disk.old) }
-    ensures disk { DiskRose result (D.faults disk.old) (D.faults disk.new) (D.stops disk.old) (D.stops disk.new) }
-    ensures why { D.tells → IsErrOf result LogFault.Disk →
-        (has_stopped (D.lane_of disk.new lane).stop ≡ true) ⊎ Rose (D.faults disk.old) (D.faults disk.new) }
-    ensures by_stop { D.tells → D.faultless disk.old → IsErrOf result LogFault.Disk →
-        has_stopped (D.lane_of disk.new lane).stop ≡ true }
-    ensures faultless { let f = D.faults disk.old in
-        StaysFaultless (D.faultless disk.old) (D.faultless disk.new) f (D.faults disk.new) }
+    ensures uses { ChangesLane D.tells D.faultless D.lane_of D.faults D.stops lane disk.old disk.new result }
 {
     let body = match body(alloc, generation, footing, cut, entries, from) {
         Ok(body) => body,

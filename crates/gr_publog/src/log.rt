@@ -1,9 +1,8 @@
 //! A log in its two lanes.
 
 ghost use Rattle.std.specs.Prelude.{◌≡◌, ◌≢◌, ◌↔◌, ℕ, ◌+◌, ◌^◌, ◌<◌, ◌≤◌, not, true, Some, IfOk, IsErrOf, IsTrue};
-ghost use Rattle.std.specs.Prelude.{◌⊎◌, ◌||◌, false, Ok, Err, OnOk, MatchResult, length};
+ghost use Rattle.std.specs.Prelude.{◌||◌, false, Ok, Err, OnOk, MatchResult, length};
 ghost use Rattle.gr_event.specs.declared.limits.TheConstants.{MAX_JOINS};
-ghost use Rattle.gr_out.specs.Faults.{Rose};
 ghost use Rattle.gr_out.specs.Lane.{content, has_stopped};
 ghost use Rattle.gr_out.specs.Stops.{StaysFaultless};
 ghost use Rattle.gr_publog.specs.declared.record.TheConstants.{MAX_TICK};
@@ -11,11 +10,12 @@ ghost use Rattle.gr_publog.specs.State.{held_by, may_follow, IsState};
 ghost use Rattle.gr_publog.specs.Text.{AreBytes, IsStanding, standing_of, placed_in};
 ghost use Rattle.gr_publog.specs.Lanes.{present_of};
 ghost use Rattle.gr_publog.specs.Gives.{Tells, IsNoReopen};
-ghost use Rattle.gr_publog.specs.Crash.{DiskRose, NotFailed, is_disk};
+ghost use Rattle.gr_publog.specs.Crash.{is_disk};
 ghost use Rattle.gr_publog.specs.Views.{LogView, appended, reclaimed, failed, lanes_at, number_of};
 ghost use Rattle.gr_publog.specs.Views.{AwayFrom, IsAside, IsReady};
-ghost use Rattle.gr_publog.specs.Opens.{AreHeads, AreSole, EitherStopped, Opens, Settles, aside_of, present_as};
+ghost use Rattle.gr_publog.specs.Opens.{AreHeads, Opens, aside_of, present_as};
 ghost use Rattle.gr_publog.specs.Calls.{Appends, Reclaims, Tally, Causes, Leaves};
+ghost use Rattle.gr_publog.specs.Uses.{AreSoleOn, ReadsLane, UsesLanes, SettlesOn, IsOpened, IsHeldFor};
 
 use crate::append::{append_at, is_sound};
 use crate::entries::{Entries, drop_upto, note_record};
@@ -101,22 +101,11 @@ fn begin<D: Disk>(
         D.tells → AreHeads heads (content ls.first) (content ls.second) }
     requires first { heads.first ≡ Standing.Shut }
     requires second { heads.second ≡ Standing.Shut }
-    requires only { let ls = lanes_at (D.lane_of disk.old) lane in D.tells → AreSole ls }
-    ensures settles { D.tells →
-        Settles late.now lane (lanes_at (D.lane_of disk.old) lane) (lanes_at (D.lane_of disk.new) lane) result }
-    ensures whole { IfOk result (λ l. (l.broken ≡ false) × (l.lane ≡ lane) × (l.state.late ≡ late.now)) }
+    requires only { AreSoleOn D.tells (lanes_at (D.lane_of disk.old) lane) }
+    ensures settles { SettlesOn D.tells D.lane_of late.now lane disk.old disk.new result }
+    ensures opened { IfOk result (IsOpened lane late.now) }
     ensures never_reopen { IsNoReopen result }
-    ensures others { D.tells → (n : ℕ) → AwayFrom lane n → D.lane_of disk.new n ≡ D.lane_of disk.old n }
-    ensures faults { D.faults disk.old ≤ D.faults disk.new }
-    ensures stops { D.stops disk.old ≤ D.stops disk.new }
-    ensures same { NotFailed result → (D.faults disk.new ≡ D.faults disk.old) × (D.stops disk.new ≡ D.stops disk.old) }
-    ensures disk { DiskRose result (D.faults disk.old) (D.faults disk.new) (D.stops disk.old) (D.stops disk.new) }
-    ensures why { D.tells → IsErrOf result LogFault.Disk → EitherStopped (lanes_at (D.lane_of disk.new) lane)
-        ⊎ Rose (D.faults disk.old) (D.faults disk.new) }
-    ensures by_stop { D.tells → D.faultless disk.old → IsErrOf result LogFault.Disk →
-        EitherStopped (lanes_at (D.lane_of disk.new) lane) }
-    ensures faultless { let f = D.faults disk.old in
-        StaysFaultless (D.faultless disk.old) (D.faultless disk.new) f (D.faults disk.new) }
+    ensures uses { UsesLanes D.tells D.faultless D.lane_of D.faults D.stops lane disk.old disk.new result }
 {
     // Proof only: what images of the two lanes hold.
     shut_is();
@@ -159,22 +148,11 @@ fn held_in<D: Disk>(
     requires long { 6 < size }
     ensures gives { let read = placed_in late.now standing (content (D.lane_of disk.old lane)) in
         D.tells → MatchResult result (λ x. read ≡ Ok (held_by x.footing x.events, x.gate)) (λ e. Tells e read) }
-    ensures state { IfOk result (λ x. IsState (held_by x.footing x.events)) }
-    ensures late { IfOk result (λ x. x.footing.late ≡ late.now) }
+    ensures held { IfOk result (IsHeldFor late.now) }
     ensures inside { IfOk result (λ x. x.gate + 1 < 2 ^ 64) }
     ensures bytes { D.tells → OnOk result (AreBytes (content (D.lane_of disk.old lane))) }
-    ensures lanes { D.tells → (n : ℕ) → D.lane_of disk.new n ≡ D.lane_of disk.old n }
     ensures never_reopen { IsNoReopen result }
-    ensures faults { D.faults disk.old ≤ D.faults disk.new }
-    ensures stops { D.stops disk.old ≤ D.stops disk.new }
-    ensures same { NotFailed result → (D.faults disk.new ≡ D.faults disk.old) × (D.stops disk.new ≡ D.stops disk.old) }
-    ensures disk { DiskRose result (D.faults disk.old) (D.faults disk.new) (D.stops disk.old) (D.stops disk.new) }
-    ensures why { D.tells → IsErrOf result LogFault.Disk →
-        (has_stopped (D.lane_of disk.new lane).stop ≡ true) ⊎ Rose (D.faults disk.old) (D.faults disk.new) }
-    ensures by_stop { D.tells → D.faultless disk.old → IsErrOf result LogFault.Disk →
-        has_stopped (D.lane_of disk.new lane).stop ≡ true }
-    ensures faultless { let f = D.faults disk.old in
-        StaysFaultless (D.faultless disk.old) (D.faultless disk.new) f (D.faults disk.new) }
+    ensures uses { ReadsLane D.tells D.faultless D.lane_of D.faults D.stops lane disk.old disk.new result }
 {
     let bytes = match bytes_in(alloc, disk, lane, size) {
         Ok(bytes) => bytes,
@@ -200,22 +178,11 @@ fn migrate<D: Disk>(
     requires first { heads.first ≡ Standing.Old }
     requires long { 6 < heads.first_size }
     requires second { heads.second ≡ Standing.Shut }
-    requires only { let ls = lanes_at (D.lane_of disk.old) lane in D.tells → AreSole ls }
-    ensures settles { D.tells →
-        Settles late.now lane (lanes_at (D.lane_of disk.old) lane) (lanes_at (D.lane_of disk.new) lane) result }
-    ensures whole { IfOk result (λ l. (l.broken ≡ false) × (l.lane ≡ lane) × (l.state.late ≡ late.now)) }
+    requires only { AreSoleOn D.tells (lanes_at (D.lane_of disk.old) lane) }
+    ensures settles { SettlesOn D.tells D.lane_of late.now lane disk.old disk.new result }
+    ensures opened { IfOk result (IsOpened lane late.now) }
     ensures never_reopen { IsNoReopen result }
-    ensures others { D.tells → (n : ℕ) → AwayFrom lane n → D.lane_of disk.new n ≡ D.lane_of disk.old n }
-    ensures faults { D.faults disk.old ≤ D.faults disk.new }
-    ensures stops { D.stops disk.old ≤ D.stops disk.new }
-    ensures same { NotFailed result → (D.faults disk.new ≡ D.faults disk.old) × (D.stops disk.new ≡ D.stops disk.old) }
-    ensures disk { DiskRose result (D.faults disk.old) (D.faults disk.new) (D.stops disk.old) (D.stops disk.new) }
-    ensures why { D.tells → IsErrOf result LogFault.Disk → EitherStopped (lanes_at (D.lane_of disk.new) lane)
-        ⊎ Rose (D.faults disk.old) (D.faults disk.new) }
-    ensures by_stop { D.tells → D.faultless disk.old → IsErrOf result LogFault.Disk →
-        EitherStopped (lanes_at (D.lane_of disk.new) lane) }
-    ensures faultless { let f = D.faults disk.old in
-        StaysFaultless (D.faultless disk.old) (D.faultless disk.new) f (D.faults disk.new) }
+    ensures uses { UsesLanes D.tells D.faultless D.lane_of D.faults D.stops lane disk.old disk.new result }
 {
     // Proof only: what images of the two lanes hold.
     shut_is();
@@ -274,22 +241,11 @@ fn found<D: Disk>(
     requires aside { D.tells → aside ≡ aside_of (content (D.lane_of disk.old (number_of lane (not second)))) }
     requires beside { D.tells →
         IsAside aside second generation (content (D.lane_of disk.old (number_of lane (not second)))) }
-    requires only { let ls = lanes_at (D.lane_of disk.old) lane in D.tells → AreSole ls }
-    ensures settles { D.tells →
-        Settles late.now lane (lanes_at (D.lane_of disk.old) lane) (lanes_at (D.lane_of disk.new) lane) result }
-    ensures whole { IfOk result (λ l. (l.broken ≡ false) × (l.lane ≡ lane) × (l.state.late ≡ late.now)) }
+    requires only { AreSoleOn D.tells (lanes_at (D.lane_of disk.old) lane) }
+    ensures settles { SettlesOn D.tells D.lane_of late.now lane disk.old disk.new result }
+    ensures opened { IfOk result (IsOpened lane late.now) }
     ensures never_reopen { IsNoReopen result }
-    ensures others { D.tells → (n : ℕ) → AwayFrom lane n → D.lane_of disk.new n ≡ D.lane_of disk.old n }
-    ensures faults { D.faults disk.old ≤ D.faults disk.new }
-    ensures stops { D.stops disk.old ≤ D.stops disk.new }
-    ensures same { NotFailed result → (D.faults disk.new ≡ D.faults disk.old) × (D.stops disk.new ≡ D.stops disk.old) }
-    ensures disk { DiskRose result (D.faults disk.old) (D.faults disk.new) (D.stops disk.old) (D.stops disk.new) }
-    ensures why { D.tells → IsErrOf result LogFault.Disk → EitherStopped (lanes_at (D.lane_of disk.new) lane)
-        ⊎ Rose (D.faults disk.old) (D.faults disk.new) }
-    ensures by_stop { D.tells → D.faultless disk.old → IsErrOf result LogFault.Disk →
-        EitherStopped (lanes_at (D.lane_of disk.new) lane) }
-    ensures faultless { let f = D.faults disk.old in
-        StaysFaultless (D.faultless disk.old) (D.faultless disk.new) f (D.faults disk.new) }
+    ensures uses { UsesLanes D.tells D.faultless D.lane_of D.faults D.stops lane disk.old disk.new result }
 {
     let standing = Standing::New(generation);
     let held = match held_in(alloc, disk, number_of(lane, second), late, standing, size) {
@@ -318,22 +274,11 @@ fn open_synced<D: Disk>(
 ) -> Result<Log, LogFault>
     requires two { lane + 1 < 2 ^ 16 }
     requires late { length late.now ≤ MAX_JOINS }
-    requires only { let ls = lanes_at (D.lane_of disk.old) lane in D.tells → AreSole ls }
-    ensures settles { D.tells →
-        Settles late.now lane (lanes_at (D.lane_of disk.old) lane) (lanes_at (D.lane_of disk.new) lane) result }
-    ensures whole { IfOk result (λ l. (l.broken ≡ false) × (l.lane ≡ lane) × (l.state.late ≡ late.now)) }
+    requires only { AreSoleOn D.tells (lanes_at (D.lane_of disk.old) lane) }
+    ensures settles { SettlesOn D.tells D.lane_of late.now lane disk.old disk.new result }
+    ensures opened { IfOk result (IsOpened lane late.now) }
     ensures never_reopen { IsNoReopen result }
-    ensures others { D.tells → (n : ℕ) → AwayFrom lane n → D.lane_of disk.new n ≡ D.lane_of disk.old n }
-    ensures faults { D.faults disk.old ≤ D.faults disk.new }
-    ensures stops { D.stops disk.old ≤ D.stops disk.new }
-    ensures same { NotFailed result → (D.faults disk.new ≡ D.faults disk.old) × (D.stops disk.new ≡ D.stops disk.old) }
-    ensures disk { DiskRose result (D.faults disk.old) (D.faults disk.new) (D.stops disk.old) (D.stops disk.new) }
-    ensures why { D.tells → IsErrOf result LogFault.Disk → EitherStopped (lanes_at (D.lane_of disk.new) lane)
-        ⊎ Rose (D.faults disk.old) (D.faults disk.new) }
-    ensures by_stop { D.tells → D.faultless disk.old → IsErrOf result LogFault.Disk →
-        EitherStopped (lanes_at (D.lane_of disk.new) lane) }
-    ensures faultless { let f = D.faults disk.old in
-        StaysFaultless (D.faultless disk.old) (D.faultless disk.new) f (D.faults disk.new) }
+    ensures uses { UsesLanes D.tells D.faultless D.lane_of D.faults D.stops lane disk.old disk.new result }
 {
     // Proof only: which lane is present.
     two_are();

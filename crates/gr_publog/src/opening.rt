@@ -1,19 +1,17 @@
 //! Two lanes are synced, and their heads are read.
 
-ghost use Rattle.std.specs.Prelude.{◌≡◌, ◌≢◌, ◌⊎◌, ℕ, ◌+◌, ◌^◌, ◌<◌, ◌≤◌, List, length, take, true, Ok, OnOk, IfOk};
-ghost use Rattle.std.specs.Prelude.{◌∷◌, min};
-ghost use Rattle.std.specs.Prelude.{IsErrOf, MatchResult};
-ghost use Rattle.gr_out.specs.Faults.{Rose};
-ghost use Rattle.gr_out.specs.Lane.{content, moment, has_stopped, LeavesOnly, LeftSince, MayLeave, Sync};
-ghost use Rattle.gr_out.specs.Stops.{StaysFaultless};
+ghost use Rattle.std.specs.Prelude.{◌≡◌, ◌⊎◌, ℕ, ◌+◌, ◌^◌, ◌<◌, ◌≤◌, List, length, take, true, Ok, OnOk, IfOk};
+ghost use Rattle.std.specs.Prelude.{◌∷◌, min, MatchResult};
+ghost use Rattle.gr_out.specs.Lane.{content, moment, LeftSince, MayLeave, Sync};
 ghost use Rattle.gr_out.specs.declared.disk.Stop.TheVariants.{Unset};
 ghost use Rattle.gr_publog.specs.Text.{standing_of, IsStanding};
 ghost use Rattle.gr_publog.specs.Lanes.{present_of};
 ghost use Rattle.gr_publog.specs.Steps.{GoesOn};
 ghost use Rattle.gr_publog.specs.Gives.{Tells, IsNoReopen};
-ghost use Rattle.gr_publog.specs.Views.{lanes_at, AwayFrom};
-ghost use Rattle.gr_publog.specs.Opens.{EitherStopped, Surveys, AreHeads, aside_by};
-ghost use Rattle.gr_publog.specs.Crash.{GaveUp, DiskRose, NotFailed};
+ghost use Rattle.gr_publog.specs.Views.{lanes_at};
+ghost use Rattle.gr_publog.specs.Opens.{Surveys, AreHeads, aside_by};
+ghost use Rattle.gr_publog.specs.Crash.{GaveUp};
+ghost use Rattle.gr_publog.specs.Uses.{LeavesSole, ChangesLane, ReadsLane, UsesLanes};
 
 use crate::head::{Standing, head_in};
 use crate::law::shut_is;
@@ -27,25 +25,15 @@ use std::alloc::Global;
 pub(crate) fn ready_lane<D: Disk>(disk: &mut D, lane: u16) -> Result<(), LogFault>
     ensures content { D.tells → content (D.lane_of disk.new lane) ≡ content (D.lane_of disk.old lane) }
     ensures on { D.tells → GoesOn (D.lane_of disk.old lane) (D.lane_of disk.new lane) }
-    ensures only { let l = D.lane_of disk.new lane in D.tells → OnOk result (LeavesOnly l (content l)) }
+    ensures only { LeavesSole D.tells (D.lane_of disk.new lane) result }
     ensures calls { let l = D.lane_of disk.old lane in
         D.tells → OnOk result ((D.lane_of disk.new lane).calls ≡ Sync ∷ l.calls) }
     ensures any_moment { let l = D.lane_of disk.old lane in D.tells → (image : List ℕ) →
         LeftSince (D.lane_of disk.new lane) (moment l) image → MayLeave l image ⊎ (image ≡ content l) }
     ensures reserved { D.tells → OnOk result ((D.lane_of disk.new lane).reserved ≡ true) }
     ensures unset { D.tells → (D.lane_of disk.old lane).stop ≡ Unset → (D.lane_of disk.new lane).stop ≡ Unset }
-    ensures others { D.tells → (n : ℕ) → n ≢ lane → D.lane_of disk.new n ≡ D.lane_of disk.old n }
     ensures gave_up { GaveUp result }
-    ensures faults { D.faults disk.old ≤ D.faults disk.new }
-    ensures stops { D.stops disk.old ≤ D.stops disk.new }
-    ensures same { NotFailed result → (D.faults disk.new ≡ D.faults disk.old) × (D.stops disk.new ≡ D.stops disk.old) }
-    ensures disk { DiskRose result (D.faults disk.old) (D.faults disk.new) (D.stops disk.old) (D.stops disk.new) }
-    ensures why { D.tells → IsErrOf result LogFault.Disk →
-        (has_stopped (D.lane_of disk.new lane).stop ≡ true) ⊎ Rose (D.faults disk.old) (D.faults disk.new) }
-    ensures by_stop { D.tells → D.faultless disk.old → IsErrOf result LogFault.Disk →
-        has_stopped (D.lane_of disk.new lane).stop ≡ true }
-    ensures faultless { let f = D.faults disk.old in
-        StaysFaultless (D.faultless disk.old) (D.faultless disk.new) f (D.faults disk.new) }
+    ensures uses { ChangesLane D.tells D.faultless D.lane_of D.faults D.stops lane disk.old disk.new result }
 {
     match disk.reserve(lane, 6) {
         Ok(()) => {}
@@ -60,18 +48,8 @@ pub(crate) fn ready_lane<D: Disk>(disk: &mut D, lane: u16) -> Result<(), LogFaul
 /// How many bytes a lane has.
 fn size_of<D: Disk>(disk: &mut D, lane: u16) -> Result<u64, LogFault>
     ensures size { D.tells → IfOk result (λ n. n ≡ length (content (D.lane_of disk.old lane))) }
-    ensures lanes { D.tells → (n : ℕ) → D.lane_of disk.new n ≡ D.lane_of disk.old n }
     ensures gave_up { GaveUp result }
-    ensures faults { D.faults disk.old ≤ D.faults disk.new }
-    ensures stops { D.stops disk.old ≤ D.stops disk.new }
-    ensures same { NotFailed result → (D.faults disk.new ≡ D.faults disk.old) × (D.stops disk.new ≡ D.stops disk.old) }
-    ensures disk { DiskRose result (D.faults disk.old) (D.faults disk.new) (D.stops disk.old) (D.stops disk.new) }
-    ensures why { D.tells → IsErrOf result LogFault.Disk →
-        (has_stopped (D.lane_of disk.new lane).stop ≡ true) ⊎ Rose (D.faults disk.old) (D.faults disk.new) }
-    ensures by_stop { D.tells → D.faultless disk.old → IsErrOf result LogFault.Disk →
-        has_stopped (D.lane_of disk.new lane).stop ≡ true }
-    ensures faultless { let f = D.faults disk.old in
-        StaysFaultless (D.faultless disk.old) (D.faultless disk.new) f (D.faults disk.new) }
+    ensures uses { ReadsLane D.tells D.faultless D.lane_of D.faults D.stops lane disk.old disk.new result }
 {
     match disk.size(lane) {
         Ok(size) => Ok(size),
@@ -89,18 +67,8 @@ pub(crate) fn bytes_in<D: Disk>(
     requires { D.tells → len ≤ length (content (D.lane_of disk.old lane)) }
     ensures bytes { D.tells → IfOk result (λ v. v.items ≡ take len (content (D.lane_of disk.old lane))) }
     ensures len { IfOk result (λ v. length v.items ≡ len) }
-    ensures lanes { D.tells → (n : ℕ) → D.lane_of disk.new n ≡ D.lane_of disk.old n }
     ensures gave_up { GaveUp result }
-    ensures faults { D.faults disk.old ≤ D.faults disk.new }
-    ensures stops { D.stops disk.old ≤ D.stops disk.new }
-    ensures same { NotFailed result → (D.faults disk.new ≡ D.faults disk.old) × (D.stops disk.new ≡ D.stops disk.old) }
-    ensures disk { DiskRose result (D.faults disk.old) (D.faults disk.new) (D.stops disk.old) (D.stops disk.new) }
-    ensures why { D.tells → IsErrOf result LogFault.Disk →
-        (has_stopped (D.lane_of disk.new lane).stop ≡ true) ⊎ Rose (D.faults disk.old) (D.faults disk.new) }
-    ensures by_stop { D.tells → D.faultless disk.old → IsErrOf result LogFault.Disk →
-        has_stopped (D.lane_of disk.new lane).stop ≡ true }
-    ensures faultless { let f = D.faults disk.old in
-        StaysFaultless (D.faultless disk.old) (D.faultless disk.new) f (D.faults disk.new) }
+    ensures uses { ReadsLane D.tells D.faultless D.lane_of D.faults D.stops lane disk.old disk.new result }
 {
     let mut bytes = Vec::new(alloc);
     match bytes.resize(len as usize, 0) {
@@ -132,18 +100,8 @@ fn head_of<D: Disk>(
     ensures gives { let read = standing_of first (content (D.lane_of disk.old lane)) in
         D.tells → MatchResult result (λ x. read ≡ Ok x) (λ e. Tells e read) }
     ensures sound { IfOk result (λ x. IsStanding size x) }
-    ensures lanes { D.tells → (n : ℕ) → D.lane_of disk.new n ≡ D.lane_of disk.old n }
     ensures never_reopen { IsNoReopen result }
-    ensures faults { D.faults disk.old ≤ D.faults disk.new }
-    ensures stops { D.stops disk.old ≤ D.stops disk.new }
-    ensures same { NotFailed result → (D.faults disk.new ≡ D.faults disk.old) × (D.stops disk.new ≡ D.stops disk.old) }
-    ensures disk { DiskRose result (D.faults disk.old) (D.faults disk.new) (D.stops disk.old) (D.stops disk.new) }
-    ensures why { D.tells → IsErrOf result LogFault.Disk →
-        (has_stopped (D.lane_of disk.new lane).stop ≡ true) ⊎ Rose (D.faults disk.old) (D.faults disk.new) }
-    ensures by_stop { D.tells → D.faultless disk.old → IsErrOf result LogFault.Disk →
-        has_stopped (D.lane_of disk.new lane).stop ≡ true }
-    ensures faultless { let f = D.faults disk.old in
-        StaysFaultless (D.faultless disk.old) (D.faultless disk.new) f (D.faults disk.new) }
+    ensures uses { ReadsLane D.tells D.faultless D.lane_of D.faults D.stops lane disk.old disk.new result }
 {
     // Proof only: what a shut lane is.
     shut_is();
@@ -162,18 +120,8 @@ pub(crate) fn sync_lanes<D: Disk>(disk: &mut D, lane: u16) -> Result<(), LogFaul
     requires two { lane + 1 < 2 ^ 16 }
     ensures surveys { D.tells →
         Surveys (lanes_at (D.lane_of disk.old) lane) (lanes_at (D.lane_of disk.new) lane) result }
-    ensures others { D.tells → (n : ℕ) → AwayFrom lane n → D.lane_of disk.new n ≡ D.lane_of disk.old n }
     ensures gave_up { GaveUp result }
-    ensures faults { D.faults disk.old ≤ D.faults disk.new }
-    ensures stops { D.stops disk.old ≤ D.stops disk.new }
-    ensures same { NotFailed result → (D.faults disk.new ≡ D.faults disk.old) × (D.stops disk.new ≡ D.stops disk.old) }
-    ensures disk { DiskRose result (D.faults disk.old) (D.faults disk.new) (D.stops disk.old) (D.stops disk.new) }
-    ensures why { D.tells → IsErrOf result LogFault.Disk → EitherStopped (lanes_at (D.lane_of disk.new) lane)
-        ⊎ Rose (D.faults disk.old) (D.faults disk.new) }
-    ensures by_stop { D.tells → D.faultless disk.old → IsErrOf result LogFault.Disk →
-        EitherStopped (lanes_at (D.lane_of disk.new) lane) }
-    ensures faultless { let f = D.faults disk.old in
-        StaysFaultless (D.faultless disk.old) (D.faultless disk.new) f (D.faults disk.new) }
+    ensures uses { UsesLanes D.tells D.faultless D.lane_of D.faults D.stops lane disk.old disk.new result }
 {
     // Proof only: what a lane reads is what a crash may leave of it.
     may_leave_what_it_reads();
@@ -207,16 +155,7 @@ pub(crate) fn heads_of<D: Disk>(alloc: Global, disk: &mut D, lane: u16) -> Resul
     ensures sound { IfOk result (λ h. IsStanding h.first_size h.first × IsStanding h.second_size h.second) }
     ensures lanes { D.tells → (n : ℕ) → D.lane_of disk.new n ≡ D.lane_of disk.old n }
     ensures never_reopen { IsNoReopen result }
-    ensures faults { D.faults disk.old ≤ D.faults disk.new }
-    ensures stops { D.stops disk.old ≤ D.stops disk.new }
-    ensures same { NotFailed result → (D.faults disk.new ≡ D.faults disk.old) × (D.stops disk.new ≡ D.stops disk.old) }
-    ensures disk { DiskRose result (D.faults disk.old) (D.faults disk.new) (D.stops disk.old) (D.stops disk.new) }
-    ensures why { D.tells → IsErrOf result LogFault.Disk → EitherStopped (lanes_at (D.lane_of disk.new) lane)
-        ⊎ Rose (D.faults disk.old) (D.faults disk.new) }
-    ensures by_stop { D.tells → D.faultless disk.old → IsErrOf result LogFault.Disk →
-        EitherStopped (lanes_at (D.lane_of disk.new) lane) }
-    ensures faultless { let f = D.faults disk.old in
-        StaysFaultless (D.faultless disk.old) (D.faultless disk.new) f (D.faults disk.new) }
+    ensures uses { UsesLanes D.tells D.faultless D.lane_of D.faults D.stops lane disk.old disk.new result }
 {
     let first_size = match size_of(disk, lane) {
         Ok(size) => size,

@@ -10,6 +10,7 @@ ghost use Rattle.gr_publog.specs.State.{empty_state, IsState};
 ghost use Rattle.gr_publog.specs.Text.{field_in, number_in, event_in, logged_in, mark_in, cut_in, join_in, record_in};
 ghost use Rattle.gr_publog.specs.Text.{records_in, is_generation, may_begin, joins_in, base_in, placed, placed_in};
 ghost use Rattle.gr_publog.specs.Gives.{Fails};
+ghost use Rattle.gr_publog.specs.Uses.{IsHeldFor};
 
 use crate::entries::{Entries, note_record};
 use crate::footing::{Footing, is_new};
@@ -489,8 +490,7 @@ fn new_text_in(alloc: Global, late: &[u16], generation: u64, bytes: &[u8]) -> Re
     requires late { length late.now ≤ MAX_JOINS }
     ensures gives { let read = placed_in late.now (Standing.New generation) bytes.now in
         MatchResult result (λ x. read ≡ Ok (held_by x.footing x.events, x.gate)) (λ e. Fails e read) }
-    ensures state { IfOk result (λ x. IsState (held_by x.footing x.events)) }
-    ensures late { IfOk result (λ x. x.footing.late ≡ late.now) }
+    ensures held { IfOk result (IsHeldFor late.now) }
     ensures inside { IfOk result (λ x. x.gate ≤ length bytes.now) }
 {
     // Proof only: each of them is a byte.
@@ -507,8 +507,7 @@ fn old_text_in(alloc: Global, late: &[u16], bytes: &[u8]) -> Result<Held, LogFau
     requires late { length late.now ≤ MAX_JOINS }
     ensures gives { let read = placed_in late.now Standing.Old bytes.now in
         MatchResult result (λ x. read ≡ Ok (held_by x.footing x.events, x.gate)) (λ e. Fails e read) }
-    ensures state { IfOk result (λ x. IsState (held_by x.footing x.events)) }
-    ensures late { IfOk result (λ x. x.footing.late ≡ late.now) }
+    ensures held { IfOk result (IsHeldFor late.now) }
     ensures inside { IfOk result (λ x. x.gate ≤ length bytes.now) }
 {
     let footing = Footing::first(alloc, late)?;
@@ -541,8 +540,7 @@ pub(crate) fn text_in(
     requires late { length late.now ≤ MAX_JOINS }
     ensures gives { let read = placed_in late.now standing bytes.now in
         MatchResult result (λ x. read ≡ Ok (held_by x.footing x.events, x.gate)) (λ e. Fails e read) }
-    ensures state { IfOk result (λ x. IsState (held_by x.footing x.events)) }
-    ensures late { IfOk result (λ x. x.footing.late ≡ late.now) }
+    ensures held { IfOk result (IsHeldFor late.now) }
     ensures inside { IfOk result (λ x. x.gate ≤ length bytes.now) }
 {
     match standing {

@@ -1,14 +1,13 @@
 //! The calls on a disk that append a record, and that close a lane and fill it anew.
 
-ghost use Rattle.std.specs.Prelude.{◌≡◌, ◌≢◌, ◌⊎◌, ℕ, ◌+◌, ◌^◌, ◌<◌, ◌≤◌, List, length, drop, get_or, true, IsErr, OnOk};
-ghost use Rattle.gr_out.specs.Faults.{Rose};
-ghost use Rattle.gr_out.specs.Lane.{content, moment, over, Torn, crash_image, has_stopped, LeavesOnly, LeftSince};
-ghost use Rattle.gr_out.specs.Stops.{StaysFaultless};
-ghost use Rattle.gr_out.specs.declared.disk.Stop.TheVariants.{Unset, After};
+ghost use Rattle.std.specs.Prelude.{◌≡◌, ◌⊎◌, ℕ, ◌+◌, ◌^◌, ◌<◌, ◌≤◌, List, length, drop, get_or, IsErr, OnOk};
+ghost use Rattle.gr_out.specs.Lane.{content, moment, over, Torn, crash_image, LeftSince};
+ghost use Rattle.gr_out.specs.declared.disk.Stop.TheVariants.{After};
 ghost use Rattle.gr_publog.specs.declared.steps.Aside.TheVariants.{Opened};
 ghost use Rattle.gr_publog.specs.Rewrite.{IsShut, IsStamped, filled};
-ghost use Rattle.gr_publog.specs.Crash.{behind_gate, opened_gate, IsBetween, EitherRose, Broke, StoppedImage};
-ghost use Rattle.gr_publog.specs.Steps.{StandsAs, GoesOn, put_calls, append_calls, closing_calls, rewriting_calls};
+ghost use Rattle.gr_publog.specs.Crash.{behind_gate, opened_gate, IsBetween, Broke, StoppedImage};
+ghost use Rattle.gr_publog.specs.Steps.{StandsAs, put_calls, append_calls, closing_calls, rewriting_calls};
+ghost use Rattle.gr_publog.specs.Uses.{IsSoleOn, LeavesSole, KeepsOn, CallsLane};
 
 use crate::law::{filled_same, three_outcomes};
 use gr_out::{Disk, Failed};
@@ -35,13 +34,13 @@ pub(crate) fn append_behind<D: Disk>(
     requires within { D.tells → gate < length (content (D.lane_of disk.old lane)) }
     requires room { D.tells → gate + 1 + length bytes.now ≤ (D.lane_of disk.old lane).room }
     requires few { D.tells → 4 ≤ (D.lane_of disk.old lane).left }
-    requires only { let l = D.lane_of disk.old lane in D.tells → LeavesOnly l (content l) }
+    requires only { IsSoleOn D.tells (D.lane_of disk.old lane) }
     ensures written { let text = content (D.lane_of disk.old lane) in
         D.tells → OnOk result (content (D.lane_of disk.new lane) ≡ opened_gate gate (behind_gate gate bytes.now text)) }
-    ensures only { let l = D.lane_of disk.new lane in D.tells → OnOk result (LeavesOnly l (content l)) }
+    ensures only { LeavesSole D.tells (D.lane_of disk.new lane) result }
     ensures calls { let l = D.lane_of disk.old lane in
         D.tells → OnOk result ((D.lane_of disk.new lane).calls ≡ append_calls gate bytes.now l.calls) }
-    ensures goes_on { D.tells → GoesOn (D.lane_of disk.old lane) (D.lane_of disk.new lane) }
+    ensures keeps { KeepsOn D.tells (D.lane_of disk.old lane) (D.lane_of disk.new lane) }
     ensures any_moment { let l = D.lane_of disk.old lane in D.tells → (image : List ℕ) →
         LeftSince (D.lane_of disk.new lane) (moment l) image → IsBetween gate bytes.now (content l) image }
     ensures picked { let l = D.lane_of disk.old lane in let l' = D.lane_of disk.new lane in D.tells →
@@ -50,21 +49,7 @@ pub(crate) fn append_behind<D: Disk>(
     ensures breaks { D.tells →
         (call : ℕ) (pick : ℕ) → (D.lane_of disk.old lane).stop ≡ After call pick → call ≤ 4 → IsErr result }
     ensures left { D.tells → (D.lane_of disk.old lane).left ≤ (D.lane_of disk.new lane).left + 4 }
-    ensures reserved { D.tells → (D.lane_of disk.new lane).reserved ≡ (D.lane_of disk.old lane).reserved }
-    ensures unset { D.tells → (D.lane_of disk.old lane).stop ≡ Unset → (D.lane_of disk.new lane).stop ≡ Unset }
-    ensures others { D.tells → (n : ℕ) → n ≢ lane → D.lane_of disk.new n ≡ D.lane_of disk.old n }
-    ensures faults { D.faults disk.old ≤ D.faults disk.new }
-    ensures stops { D.stops disk.old ≤ D.stops disk.new }
-    ensures same { OnOk result (D.faults disk.new ≡ D.faults disk.old) }
-    ensures same_stops { OnOk result (D.stops disk.new ≡ D.stops disk.old) }
-    ensures cause { IsErr result →
-        EitherRose (D.faults disk.old) (D.faults disk.new) (D.stops disk.old) (D.stops disk.new) }
-    ensures why { D.tells → IsErr result →
-        (has_stopped (D.lane_of disk.new lane).stop ≡ true) ⊎ Rose (D.faults disk.old) (D.faults disk.new) }
-    ensures by_stop { D.tells → D.faultless disk.old → IsErr result →
-        has_stopped (D.lane_of disk.new lane).stop ≡ true }
-    ensures faultless { let f = D.faults disk.old in
-        StaysFaultless (D.faultless disk.old) (D.faultless disk.new) f (D.faults disk.new) }
+    ensures uses { CallsLane D.tells D.faultless D.lane_of D.faults D.stops lane disk.old disk.new result }
 {
     disk.write_at(lane, gate + 1, bytes)?;
     // Behind a gate that opened first, a crash could leave anything.
@@ -78,33 +63,19 @@ pub(crate) fn put<D: Disk>(disk: &mut D, lane: u16, at: u64, bytes: &[u8]) -> Re
     requires within { D.tells → at ≤ length (content (D.lane_of disk.old lane)) }
     requires room { D.tells → at + length bytes.now ≤ (D.lane_of disk.old lane).room }
     requires few { D.tells → 2 ≤ (D.lane_of disk.old lane).left }
-    requires only { let l = D.lane_of disk.old lane in D.tells → LeavesOnly l (content l) }
+    requires only { IsSoleOn D.tells (D.lane_of disk.old lane) }
     ensures written { let l = D.lane_of disk.old lane in
         D.tells → OnOk result (content (D.lane_of disk.new lane) ≡ over at bytes.now (content l)) }
-    ensures only { let l = D.lane_of disk.new lane in D.tells → OnOk result (LeavesOnly l (content l)) }
+    ensures only { LeavesSole D.tells (D.lane_of disk.new lane) result }
     ensures any_moment { let l = D.lane_of disk.old lane in D.tells → (n : ℕ) (image : List ℕ) →
         LeftSince (D.lane_of disk.new lane) n image
         → LeftSince l n image ⊎ Torn at (length bytes.now) (content l) image }
     ensures calls { let l = D.lane_of disk.old lane in
         D.tells → OnOk result ((D.lane_of disk.new lane).calls ≡ put_calls at bytes.now l.calls) }
-    ensures goes_on { D.tells → GoesOn (D.lane_of disk.old lane) (D.lane_of disk.new lane) }
+    ensures keeps { KeepsOn D.tells (D.lane_of disk.old lane) (D.lane_of disk.new lane) }
     ensures left { D.tells → (D.lane_of disk.old lane).left ≤ (D.lane_of disk.new lane).left + 2 }
     ensures room { D.tells → (D.lane_of disk.new lane).room ≡ (D.lane_of disk.old lane).room }
-    ensures reserved { D.tells → (D.lane_of disk.new lane).reserved ≡ (D.lane_of disk.old lane).reserved }
-    ensures unset { D.tells → (D.lane_of disk.old lane).stop ≡ Unset → (D.lane_of disk.new lane).stop ≡ Unset }
-    ensures others { D.tells → (n : ℕ) → n ≢ lane → D.lane_of disk.new n ≡ D.lane_of disk.old n }
-    ensures faults { D.faults disk.old ≤ D.faults disk.new }
-    ensures stops { D.stops disk.old ≤ D.stops disk.new }
-    ensures same { OnOk result (D.faults disk.new ≡ D.faults disk.old) }
-    ensures same_stops { OnOk result (D.stops disk.new ≡ D.stops disk.old) }
-    ensures cause { IsErr result →
-        EitherRose (D.faults disk.old) (D.faults disk.new) (D.stops disk.old) (D.stops disk.new) }
-    ensures why { D.tells → IsErr result →
-        (has_stopped (D.lane_of disk.new lane).stop ≡ true) ⊎ Rose (D.faults disk.old) (D.faults disk.new) }
-    ensures by_stop { D.tells → D.faultless disk.old → IsErr result →
-        has_stopped (D.lane_of disk.new lane).stop ≡ true }
-    ensures faultless { let f = D.faults disk.old in
-        StaysFaultless (D.faultless disk.old) (D.faultless disk.new) f (D.faults disk.new) }
+    ensures uses { CallsLane D.tells D.faultless D.lane_of D.faults D.stops lane disk.old disk.new result }
 {
     disk.write_at(lane, at, bytes)?;
     disk.sync(lane)
@@ -116,33 +87,19 @@ fn close_open<D: Disk>(disk: &mut D, lane: u16) -> Result<(), Failed>
     requires opened { D.tells → get_or (content (D.lane_of disk.old lane)) 5 0 ≡ 1 }
     requires room { D.tells → 6 ≤ (D.lane_of disk.old lane).room }
     requires few { D.tells → 4 ≤ (D.lane_of disk.old lane).left }
-    requires only { let l = D.lane_of disk.old lane in D.tells → LeavesOnly l (content l) }
+    requires only { IsSoleOn D.tells (D.lane_of disk.old lane) }
     ensures stamped { D.tells → OnOk result (IsStamped (content (D.lane_of disk.new lane))) }
     ensures behind { let l = D.lane_of disk.old lane in
         D.tells → OnOk result (drop 6 (content (D.lane_of disk.new lane)) ≡ drop 6 (content l)) }
-    ensures only { let l = D.lane_of disk.new lane in D.tells → OnOk result (LeavesOnly l (content l)) }
+    ensures only { LeavesSole D.tells (D.lane_of disk.new lane) result }
     ensures any_moment { let l = D.lane_of disk.old lane in D.tells → (n : ℕ) (image : List ℕ) →
         LeftSince (D.lane_of disk.new lane) n image → LeftSince l n image ⊎ ((image ≡ content l) ⊎ IsShut image) }
     ensures calls { let l = D.lane_of disk.old lane in
         D.tells → OnOk result ((D.lane_of disk.new lane).calls ≡ closing_calls Opened l.calls) }
-    ensures goes_on { D.tells → GoesOn (D.lane_of disk.old lane) (D.lane_of disk.new lane) }
+    ensures keeps { KeepsOn D.tells (D.lane_of disk.old lane) (D.lane_of disk.new lane) }
     ensures left { D.tells → (D.lane_of disk.old lane).left ≤ (D.lane_of disk.new lane).left + 4 }
     ensures room { D.tells → (D.lane_of disk.new lane).room ≡ (D.lane_of disk.old lane).room }
-    ensures reserved { D.tells → (D.lane_of disk.new lane).reserved ≡ (D.lane_of disk.old lane).reserved }
-    ensures unset { D.tells → (D.lane_of disk.old lane).stop ≡ Unset → (D.lane_of disk.new lane).stop ≡ Unset }
-    ensures others { D.tells → (n : ℕ) → n ≢ lane → D.lane_of disk.new n ≡ D.lane_of disk.old n }
-    ensures faults { D.faults disk.old ≤ D.faults disk.new }
-    ensures stops { D.stops disk.old ≤ D.stops disk.new }
-    ensures same { OnOk result (D.faults disk.new ≡ D.faults disk.old) }
-    ensures same_stops { OnOk result (D.stops disk.new ≡ D.stops disk.old) }
-    ensures cause { IsErr result →
-        EitherRose (D.faults disk.old) (D.faults disk.new) (D.stops disk.old) (D.stops disk.new) }
-    ensures why { D.tells → IsErr result →
-        (has_stopped (D.lane_of disk.new lane).stop ≡ true) ⊎ Rose (D.faults disk.old) (D.faults disk.new) }
-    ensures by_stop { D.tells → D.faultless disk.old → IsErr result →
-        has_stopped (D.lane_of disk.new lane).stop ≡ true }
-    ensures faultless { let f = D.faults disk.old in
-        StaysFaultless (D.faultless disk.old) (D.faultless disk.new) f (D.faults disk.new) }
+    ensures uses { CallsLane D.tells D.faultless D.lane_of D.faults D.stops lane disk.old disk.new result }
 {
     // Proof only: what a crash leaves of each write.
     three_outcomes();
@@ -156,33 +113,19 @@ pub(crate) fn close<D: Disk>(disk: &mut D, lane: u16, aside: Aside) -> Result<()
     requires aside { D.tells → StandsAs aside (content (D.lane_of disk.old lane)) }
     requires room { D.tells → 6 ≤ (D.lane_of disk.old lane).room }
     requires few { D.tells → 4 ≤ (D.lane_of disk.old lane).left }
-    requires only { let l = D.lane_of disk.old lane in D.tells → LeavesOnly l (content l) }
+    requires only { IsSoleOn D.tells (D.lane_of disk.old lane) }
     ensures stamped { D.tells → OnOk result (IsStamped (content (D.lane_of disk.new lane))) }
     ensures behind { let l = D.lane_of disk.old lane in
         D.tells → OnOk result (drop 6 (content (D.lane_of disk.new lane)) ≡ drop 6 (content l)) }
-    ensures only { let l = D.lane_of disk.new lane in D.tells → OnOk result (LeavesOnly l (content l)) }
+    ensures only { LeavesSole D.tells (D.lane_of disk.new lane) result }
     ensures any_moment { let l = D.lane_of disk.old lane in D.tells → (n : ℕ) (image : List ℕ) →
         LeftSince (D.lane_of disk.new lane) n image → LeftSince l n image ⊎ ((image ≡ content l) ⊎ IsShut image) }
     ensures calls { let l = D.lane_of disk.old lane in
         D.tells → OnOk result ((D.lane_of disk.new lane).calls ≡ closing_calls aside l.calls) }
-    ensures goes_on { D.tells → GoesOn (D.lane_of disk.old lane) (D.lane_of disk.new lane) }
+    ensures keeps { KeepsOn D.tells (D.lane_of disk.old lane) (D.lane_of disk.new lane) }
     ensures left { D.tells → (D.lane_of disk.old lane).left ≤ (D.lane_of disk.new lane).left + 4 }
     ensures room { D.tells → (D.lane_of disk.new lane).room ≡ (D.lane_of disk.old lane).room }
-    ensures reserved { D.tells → (D.lane_of disk.new lane).reserved ≡ (D.lane_of disk.old lane).reserved }
-    ensures unset { D.tells → (D.lane_of disk.old lane).stop ≡ Unset → (D.lane_of disk.new lane).stop ≡ Unset }
-    ensures others { D.tells → (n : ℕ) → n ≢ lane → D.lane_of disk.new n ≡ D.lane_of disk.old n }
-    ensures faults { D.faults disk.old ≤ D.faults disk.new }
-    ensures stops { D.stops disk.old ≤ D.stops disk.new }
-    ensures same { OnOk result (D.faults disk.new ≡ D.faults disk.old) }
-    ensures same_stops { OnOk result (D.stops disk.new ≡ D.stops disk.old) }
-    ensures cause { IsErr result →
-        EitherRose (D.faults disk.old) (D.faults disk.new) (D.stops disk.old) (D.stops disk.new) }
-    ensures why { D.tells → IsErr result →
-        (has_stopped (D.lane_of disk.new lane).stop ≡ true) ⊎ Rose (D.faults disk.old) (D.faults disk.new) }
-    ensures by_stop { D.tells → D.faultless disk.old → IsErr result →
-        has_stopped (D.lane_of disk.new lane).stop ≡ true }
-    ensures faultless { let f = D.faults disk.old in
-        StaysFaultless (D.faultless disk.old) (D.faultless disk.new) f (D.faults disk.new) }
+    ensures uses { CallsLane D.tells D.faultless D.lane_of D.faults D.stops lane disk.old disk.new result }
 {
     // Proof only: what a crash leaves of each write.
     three_outcomes();
@@ -204,32 +147,18 @@ pub(crate) fn rewrite<D: Disk>(
     requires aside { D.tells → StandsAs aside (content (D.lane_of disk.old lane)) }
     requires room { D.tells → 6 + length body.now ≤ (D.lane_of disk.old lane).room }
     requires few { D.tells → 8 ≤ (D.lane_of disk.old lane).left }
-    requires only { let l = D.lane_of disk.old lane in D.tells → LeavesOnly l (content l) }
+    requires only { IsSoleOn D.tells (D.lane_of disk.old lane) }
     ensures written { let l = D.lane_of disk.old lane in
         D.tells → OnOk result (content (D.lane_of disk.new lane) ≡ filled body.now (content l)) }
-    ensures only { let l = D.lane_of disk.new lane in D.tells → OnOk result (LeavesOnly l (content l)) }
+    ensures only { LeavesSole D.tells (D.lane_of disk.new lane) result }
     ensures any_moment { let l = D.lane_of disk.old lane in D.tells → (n : ℕ) (image : List ℕ) →
         LeftSince (D.lane_of disk.new lane) n image
         → LeftSince l n image ⊎ ((image ≡ content l) ⊎ (IsShut image ⊎ (image ≡ filled body.now (content l)))) }
     ensures calls { let l = D.lane_of disk.old lane in
         D.tells → OnOk result ((D.lane_of disk.new lane).calls ≡ rewriting_calls aside body.now l.calls) }
-    ensures goes_on { D.tells → GoesOn (D.lane_of disk.old lane) (D.lane_of disk.new lane) }
+    ensures keeps { KeepsOn D.tells (D.lane_of disk.old lane) (D.lane_of disk.new lane) }
     ensures left { D.tells → (D.lane_of disk.old lane).left ≤ (D.lane_of disk.new lane).left + 8 }
-    ensures reserved { D.tells → (D.lane_of disk.new lane).reserved ≡ (D.lane_of disk.old lane).reserved }
-    ensures unset { D.tells → (D.lane_of disk.old lane).stop ≡ Unset → (D.lane_of disk.new lane).stop ≡ Unset }
-    ensures others { D.tells → (n : ℕ) → n ≢ lane → D.lane_of disk.new n ≡ D.lane_of disk.old n }
-    ensures faults { D.faults disk.old ≤ D.faults disk.new }
-    ensures stops { D.stops disk.old ≤ D.stops disk.new }
-    ensures same { OnOk result (D.faults disk.new ≡ D.faults disk.old) }
-    ensures same_stops { OnOk result (D.stops disk.new ≡ D.stops disk.old) }
-    ensures cause { IsErr result →
-        EitherRose (D.faults disk.old) (D.faults disk.new) (D.stops disk.old) (D.stops disk.new) }
-    ensures why { D.tells → IsErr result →
-        (has_stopped (D.lane_of disk.new lane).stop ≡ true) ⊎ Rose (D.faults disk.old) (D.faults disk.new) }
-    ensures by_stop { D.tells → D.faultless disk.old → IsErr result →
-        has_stopped (D.lane_of disk.new lane).stop ≡ true }
-    ensures faultless { let f = D.faults disk.old in
-        StaysFaultless (D.faultless disk.old) (D.faultless disk.new) f (D.faults disk.new) }
+    ensures uses { CallsLane D.tells D.faultless D.lane_of D.faults D.stops lane disk.old disk.new result }
 {
     // Proof only: what a crash leaves of each write.
     three_outcomes();

@@ -19,12 +19,10 @@ returns-clause-extends g c = λ t.
     extends_failed c.args.gate c.as_slice.result.now _ _ (g.D.Disk.lane_of c.reserve.new.self c.args.lane) _ _ (record {
       room = c.in-Ok-reserve.ensures.room t;
       text_is = c.as_slice.ensures ∙ c.in-Ok.ensures.text;
-      on = c.append_behind.ensures.goes_on t;
+      keeps = c.append_behind.ensures.keeps t;
       any_moment = c.append_behind.ensures.any_moment t;
       picked = c.append_behind.ensures.picked t;
       left = c.append_behind.ensures.left t;
-      reserved = c.append_behind.ensures.reserved t;
-      unset = c.append_behind.ensures.unset t;
     })
 
 pub returns-in-Ok-append_behind-clause-extends : goal.returns-in-Ok-append_behind-clause-extends
@@ -33,12 +31,10 @@ returns-in-Ok-append_behind-clause-extends g c = λ t.
     extends_ok c.args.gate c.as_slice.result.now _ _ (g.D.Disk.lane_of c.reserve.new.self c.args.lane) _ _ (record {
       room = c.in-Ok-reserve.ensures.room t;
       text_is = c.as_slice.ensures ∙ c.in-Ok.ensures.text;
-      on = c.append_behind.ensures.goes_on t;
+      keeps = c.append_behind.ensures.keeps t;
       any_moment = c.append_behind.ensures.any_moment t;
       picked = c.append_behind.ensures.picked t;
       left = c.append_behind.ensures.left t;
-      reserved = c.append_behind.ensures.reserved t;
-      unset = c.append_behind.ensures.unset t;
     }) _ (e.written t) (e.only t) (e.calls t) (e.breaks t)
 
 pub returns-in-Ok-append_behind-clause-size : goal.returns-in-Ok-append_behind-clause-size

@@ -18,11 +18,9 @@ returns-clause-refills g c = λ t.
       sole = c.requires.only t;
       room = c.in-Ok-reserve.ensures.room t;
       text_is = c.deref.ensures.value ∙ c.in-Ok.ensures;
-      on = c.rewrite.ensures.goes_on t;
+      keeps = c.rewrite.ensures.keeps t;
       any_moment = c.rewrite.ensures.any_moment t;
       left = c.rewrite.ensures.left t;
-      reserved = c.rewrite.ensures.reserved t;
-      unset = c.rewrite.ensures.unset t;
     }) c.args.aside
 
 pub returns-in-Ok-rewrite-clause-refills : goal.returns-in-Ok-rewrite-clause-refills
@@ -32,11 +30,9 @@ returns-in-Ok-rewrite-clause-refills g c = λ t.
       sole = c.requires.only t;
       room = c.in-Ok-reserve.ensures.room t;
       text_is = c.deref.ensures.value ∙ c.in-Ok.ensures;
-      on = c.rewrite.ensures.goes_on t;
+      keeps = c.rewrite.ensures.keeps t;
       any_moment = c.rewrite.ensures.any_moment t;
       left = c.rewrite.ensures.left t;
-      reserved = c.rewrite.ensures.reserved t;
-      unset = c.rewrite.ensures.unset t;
     }) _ c.args.aside (e.written t) (e.only t) (e.calls t)
 
 pub returns-in-Ok-rewrite-clause-size : goal.returns-in-Ok-rewrite-clause-size

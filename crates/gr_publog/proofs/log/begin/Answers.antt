@@ -20,7 +20,7 @@ returns-in-Err-refill-clause-settles g c = λ t.
     let late : List ℕ = c.args.late.now in
     let body : body_of (held_by (stands_after c.in-Ok.footing (Cut 0)) (drop 0 c.new-entries.result.items)) 1 ≡ body_of (empty_state late) 1 =
     ap₂ (λ (n : Footing) (es : List Entry). body_of (held_by (stands_after n (Cut 0)) es) 1) c.in-Ok.ensures c.new-entries.ensures.items in
-    begin_err late c.requires.late c.shut_is.ensures c.two_are.ensures (c.reclaims.ensures late) c.args.lane f f' c.args.heads (c.requires.heads t) c.requires.first c.requires.second (c.requires.only t) (c.refill.ensures.others t) c.in-Err-refill.fault c.aside_by-aside.result c.aside_by-aside.ensures c.in-Err-refill.ensures.gave_up
+    begin_err late c.requires.late c.shut_is.ensures c.two_are.ensures (c.reclaims.ensures late) c.args.lane f f' c.args.heads (c.requires.heads t) c.requires.first c.requires.second (c.requires.only t) (c.refill.ensures.uses.others t) c.in-Err-refill.fault c.aside_by-aside.result c.aside_by-aside.ensures c.in-Err-refill.ensures.gave_up
     (subst (λ (b : List ℕ). Refills {T = ℕ} c.aside_by-aside.result b (f c.args.lane) (f' c.args.lane) (Err c.in-Err-refill.fault)) body (c.in-Err-refill.ensures.refills t))
 
 pub returns-in-Ok-refill-clause-settles : goal.returns-in-Ok-refill-clause-settles
@@ -31,7 +31,7 @@ returns-in-Ok-refill-clause-settles g c = λ t.
     let body : body_of (held_by (stands_after c.in-Ok.footing (Cut 0)) (drop 0 c.new-entries.result.items)) 1 ≡ body_of (empty_state late) 1 =
     ap₂ (λ (n : Footing) (es : List Entry). body_of (held_by (stands_after n (Cut 0)) es) 1) c.in-Ok.ensures c.new-entries.ensures.items in
     let size : c.in-Ok-refill.size ≡ filled_size (empty_state late) = c.in-Ok-refill.ensures.size ∙ ap₂ (λ (n : Footing) (es : List Entry). filled_size (held_by (stands_after n (Cut 0)) es)) c.in-Ok.ensures c.new-entries.ensures.items in
-    begin_ok late c.requires.late c.shut_is.ensures c.two_are.ensures (c.reclaims.ensures late) c.args.lane f f' c.args.heads (c.requires.heads t) c.requires.first c.requires.second (c.requires.only t) (c.refill.ensures.others t) c.in-Ok-refill.size c.aside_by-aside.result c.aside_by-beside.result _ c.aside_by-aside.ensures c.aside_by-beside.ensures size
+    begin_ok late c.requires.late c.shut_is.ensures c.two_are.ensures (c.reclaims.ensures late) c.args.lane f f' c.args.heads (c.requires.heads t) c.requires.first c.requires.second (c.requires.only t) (c.refill.ensures.uses.others t) c.in-Ok-refill.size c.aside_by-aside.result c.aside_by-beside.result _ c.aside_by-aside.ensures c.aside_by-beside.ensures size
     (ap₂ (λ (n : Footing) (es : List Entry). let v : LogView = record { lane = c.args.lane; state = held_by n es; broken = false; second = false; generation = 1; size = c.in-Ok-refill.size; aside = c.aside_by-beside.result } in v) c.in-Ok.ensures c.new-entries.ensures.items)
     (subst (λ (b : List ℕ). Refills {T = ℕ} c.aside_by-aside.result b (f c.args.lane) (f' c.args.lane) (Ok c.in-Ok-refill.size)) body (c.in-Ok-refill.ensures.refills t))
 

@@ -9,7 +9,7 @@ use Rattle.gr_publog.proofs.opening.heads_of.Goals as goal
 pub returns-in-Err-head_of-clause-gives : goal.returns-in-Err-head_of-clause-gives
 returns-in-Err-head_of-clause-gives g c = λ t.
     let f : ℕ → Lane = g.D.Disk.lane_of c.args.disk.now in
-    let same : g.D.Disk.lane_of c.size_of-2.new.disk c.args.lane ≡ f c.args.lane = c.in-Ok-size_of.ensures.lanes t c.args.lane ∙ c.in-Ok.ensures.lanes t c.args.lane in
+    let same : g.D.Disk.lane_of c.size_of-2.new.disk c.args.lane ≡ f c.args.lane = c.in-Ok-size_of.ensures.uses.lanes t c.args.lane ∙ c.in-Ok.ensures.uses.lanes t c.args.lane in
     tells_first c.in-Err-head_of.fault (content (f c.args.lane)) (content (f (suc c.args.lane)))
     (subst (λ (l : Lane). Tells c.in-Err-head_of.fault (standing_of true (content l))) same (c.in-Err-head_of.ensures.gives t))
 
@@ -18,9 +18,9 @@ returns-in-Err-head_of-2-clause-gives g c = λ t.
     let f : ℕ → Lane = g.D.Disk.lane_of c.args.disk.now in
     let n : ℕ = c.args.lane + 1 in
     let next_is : n ≡ suc c.args.lane = omega arith in
-    let same : g.D.Disk.lane_of c.size_of-2.new.disk c.args.lane ≡ f c.args.lane = c.in-Ok-size_of.ensures.lanes t c.args.lane ∙ c.in-Ok.ensures.lanes t c.args.lane in
+    let same : g.D.Disk.lane_of c.size_of-2.new.disk c.args.lane ≡ f c.args.lane = c.in-Ok-size_of.ensures.uses.lanes t c.args.lane ∙ c.in-Ok.ensures.uses.lanes t c.args.lane in
     let same_next : g.D.Disk.lane_of c.head_of.new.disk n ≡ f (suc c.args.lane) =
-    c.in-Ok-head_of.ensures.lanes t n ∙ (c.in-Ok-size_of.ensures.lanes t n ∙ (c.in-Ok.ensures.lanes t n ∙ ap f next_is)) in
+    c.in-Ok-head_of.ensures.uses.lanes t n ∙ (c.in-Ok-size_of.ensures.uses.lanes t n ∙ (c.in-Ok.ensures.uses.lanes t n ∙ ap f next_is)) in
     tells_second c.in-Err-head_of-2.fault (content (f c.args.lane)) (content (f (suc c.args.lane))) c.in-Ok-head_of.standing
     (subst (λ (l : Lane). standing_of true (content l) ≡ Ok c.in-Ok-head_of.standing) same (c.in-Ok-head_of.ensures.gives t))
     (subst (λ (l : Lane). Tells c.in-Err-head_of-2.fault (standing_of false (content l))) same_next (c.in-Err-head_of-2.ensures.gives t))
@@ -30,10 +30,10 @@ returns-clause-gives g c = λ t.
     let f : ℕ → Lane = g.D.Disk.lane_of c.args.disk.now in
     let n : ℕ = c.args.lane + 1 in
     let next_is : n ≡ suc c.args.lane = omega arith in
-    let same : g.D.Disk.lane_of c.size_of-2.new.disk c.args.lane ≡ f c.args.lane = c.in-Ok-size_of.ensures.lanes t c.args.lane ∙ c.in-Ok.ensures.lanes t c.args.lane in
+    let same : g.D.Disk.lane_of c.size_of-2.new.disk c.args.lane ≡ f c.args.lane = c.in-Ok-size_of.ensures.uses.lanes t c.args.lane ∙ c.in-Ok.ensures.uses.lanes t c.args.lane in
     let same_next : g.D.Disk.lane_of c.head_of.new.disk n ≡ f (suc c.args.lane) =
-    c.in-Ok-head_of.ensures.lanes t n ∙ (c.in-Ok-size_of.ensures.lanes t n ∙ (c.in-Ok.ensures.lanes t n ∙ ap f next_is)) in
-    let sized : g.D.Disk.lane_of c.size_of.new.disk n ≡ f (suc c.args.lane) = c.in-Ok.ensures.lanes t n ∙ ap f next_is in
+    c.in-Ok-head_of.ensures.uses.lanes t n ∙ (c.in-Ok-size_of.ensures.uses.lanes t n ∙ (c.in-Ok.ensures.uses.lanes t n ∙ ap f next_is)) in
+    let sized : g.D.Disk.lane_of c.size_of.new.disk n ≡ f (suc c.args.lane) = c.in-Ok.ensures.uses.lanes t n ∙ ap f next_is in
     record {
       first = subst (λ (l : Lane). standing_of true (content l) ≡ Ok c.in-Ok-head_of.standing) same (c.in-Ok-head_of.ensures.gives t);
       second = subst (λ (l : Lane). standing_of false (content l) ≡ Ok c.in-Ok-head_of-2.standing) same_next (c.in-Ok-head_of-2.ensures.gives t);

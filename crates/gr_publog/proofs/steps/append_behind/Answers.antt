@@ -5,7 +5,7 @@ use Rattle.gr_publog.specs.Crash.{opened_gate}
 use Rattle.gr_publog.proofs.Moments.{wrote, synced, synced_only}
 use Rattle.gr_publog.proofs.Stopping.{first_broke, second_broke, third_broke, fourth_broke}
 use Rattle.gr_publog.proofs.Appending.{not_due, after_write, after_sync, after_gate, after_all}
-use Rattle.gr_publog.proofs.Onward.{goes_on_write, goes_on_sync, goes_on_then}
+use Rattle.gr_publog.proofs.Keeping.{keeps_write, keeps_sync, keeps_then}
 use Rattle.gr_publog.proofs.steps.append_behind.Goals as goal
 
 pub returns-in_err-write_at-clause-any_moment : goal.returns-in_err-write_at-clause-any_moment
@@ -77,26 +77,26 @@ returns-clause-picked g c = λ t call pick b.
 
 -- No call takes one back
 
-pub returns-in_err-write_at-clause-goes_on : goal.returns-in_err-write_at-clause-goes_on
-returns-in_err-write_at-clause-goes_on g c = λ t. goes_on_write _ _ _ _ _ (c.write_at.ensures.after t)
+pub returns-in_err-write_at-clause-keeps : goal.returns-in_err-write_at-clause-keeps
+returns-in_err-write_at-clause-keeps g c = λ t. keeps_write _ _ _ _ _ (c.write_at.ensures.after t)
 
-pub returns-in_err-sync-clause-goes_on : goal.returns-in_err-sync-clause-goes_on
-returns-in_err-sync-clause-goes_on g c = λ t.
+pub returns-in_err-sync-clause-keeps : goal.returns-in_err-sync-clause-keeps
+returns-in_err-sync-clause-keeps g c = λ t.
     let l1 = g.D.Disk.lane_of c.write_at.new.self c.args.lane in
-    goes_on_then _ l1 _ (goes_on_write false _ l1 (c.args.gate + 1) c.args.bytes.now (c.in_ok-write_at.ensures.after t)) (goes_on_sync _ _ _ (c.sync.ensures.after t))
+    keeps_then _ l1 _ (keeps_write false _ l1 (c.args.gate + 1) c.args.bytes.now (c.in_ok-write_at.ensures.after t)) (keeps_sync _ _ _ (c.sync.ensures.after t))
 
-pub returns-in_err-write_at-2-clause-goes_on : goal.returns-in_err-write_at-2-clause-goes_on
-returns-in_err-write_at-2-clause-goes_on g c = λ t.
+pub returns-in_err-write_at-2-clause-keeps : goal.returns-in_err-write_at-2-clause-keeps
+returns-in_err-write_at-2-clause-keeps g c = λ t.
     let l1 = g.D.Disk.lane_of c.write_at.new.self c.args.lane in
     let l2 = g.D.Disk.lane_of c.sync.new.self c.args.lane in
-    goes_on_then _ l1 _ (goes_on_write false _ l1 (c.args.gate + 1) c.args.bytes.now (c.in_ok-write_at.ensures.after t))
-    (goes_on_then l1 l2 _ (goes_on_sync false l1 l2 (c.in_ok-sync.ensures.after t)) (goes_on_write _ _ _ _ _ (c.write_at-2.ensures.after t)))
+    keeps_then _ l1 _ (keeps_write false _ l1 (c.args.gate + 1) c.args.bytes.now (c.in_ok-write_at.ensures.after t))
+    (keeps_then l1 l2 _ (keeps_sync false l1 l2 (c.in_ok-sync.ensures.after t)) (keeps_write _ _ _ _ _ (c.write_at-2.ensures.after t)))
 
-pub returns-clause-goes_on : goal.returns-clause-goes_on
-returns-clause-goes_on g c = λ t.
+pub returns-clause-keeps : goal.returns-clause-keeps
+returns-clause-keeps g c = λ t.
     let l1 = g.D.Disk.lane_of c.write_at.new.self c.args.lane in
     let l2 = g.D.Disk.lane_of c.sync.new.self c.args.lane in
     let l3 = g.D.Disk.lane_of c.write_at-2.new.self c.args.lane in
-    goes_on_then _ l1 _ (goes_on_write false _ l1 (c.args.gate + 1) c.args.bytes.now (c.in_ok-write_at.ensures.after t))
-    (goes_on_then l1 l2 _ (goes_on_sync false l1 l2 (c.in_ok-sync.ensures.after t))
-    (goes_on_then l2 l3 _ (goes_on_write false l2 l3 c.args.gate (1 ∷ []) (c.in_ok-write_at-2.ensures.after t)) (goes_on_sync _ _ _ (c.sync-2.ensures.after t))))
+    keeps_then _ l1 _ (keeps_write false _ l1 (c.args.gate + 1) c.args.bytes.now (c.in_ok-write_at.ensures.after t))
+    (keeps_then l1 l2 _ (keeps_sync false l1 l2 (c.in_ok-sync.ensures.after t))
+    (keeps_then l2 l3 _ (keeps_write false l2 l3 c.args.gate (1 ∷ []) (c.in_ok-write_at-2.ensures.after t)) (keeps_sync _ _ _ (c.sync-2.ensures.after t))))

@@ -4,7 +4,7 @@ use Rattle.gr_out.specs.Lane.{content, over, Torn}
 use Rattle.gr_publog.specs.Text.{stamp}
 use Rattle.gr_publog.specs.Rewrite.{IsStamped}
 use Rattle.gr_publog.proofs.Moments.{length-over}
-use Rattle.gr_publog.proofs.Onward.{goes_on_then}
+use Rattle.gr_publog.proofs.Keeping.{keeps_then}
 use Rattle.gr_publog.proofs.Rewriting.{on_ok}
 use Rattle.gr_publog.proofs.steps.close_open.Goals as goal
 
@@ -30,5 +30,5 @@ returns-clause-any_moment g c = λ t n image left.
       ]
     ]
 
-pub returns-clause-goes_on : goal.returns-clause-goes_on
-returns-clause-goes_on g c = λ t. goes_on_then _ (g.D.Disk.lane_of c.put.new.disk c.args.lane) _ (c.in_ok-put.ensures.goes_on t) (c.put-2.ensures.goes_on t)
+pub returns-clause-keeps : goal.returns-clause-keeps
+returns-clause-keeps g c = λ t. keeps_then _ (g.D.Disk.lane_of c.put.new.disk c.args.lane) _ (c.in_ok-put.ensures.keeps t) (c.put-2.ensures.keeps t)

@@ -2,7 +2,7 @@
 use Rattle.std.proofs.Common.{inl, inr, List, ℕ, [], ◌∷◌, ap, ◌∙◌}
 use Rattle.gr_out.specs.Lane.{content}
 use Rattle.gr_out.specs.Lane.{over}
-use Rattle.gr_publog.proofs.Onward.{goes_on_then}
+use Rattle.gr_publog.proofs.Keeping.{keeps_then}
 use Rattle.gr_publog.proofs.Rewriting.{of_gate, on_ok}
 use Rattle.gr_publog.proofs.steps.rewrite.Goals as goal
 
@@ -31,11 +31,11 @@ returns-clause-written g c = λ t.
     on_ok c.put-2.result (λ e. e ∙ (ap (λ (x : List ℕ). over 5 (1 ∷ []) x) (c.in_ok-put.ensures.written t)
     ∙ (c.three_outcomes.ensures.opened c.args.body.now (content l1) (c.in_ok-close.ensures.stamped t) ∙ c.filled_same.ensures c.args.body.now (content l1) (content l) (c.in_ok-close.ensures.behind t)))) (c.put-2.ensures.written t)
 
-pub returns-in_err-put-clause-goes_on : goal.returns-in_err-put-clause-goes_on
-returns-in_err-put-clause-goes_on g c = λ t. goes_on_then _ (g.D.Disk.lane_of c.close.new.disk c.args.lane) _ (c.in_ok-close.ensures.goes_on t) (c.put.ensures.goes_on t)
+pub returns-in_err-put-clause-keeps : goal.returns-in_err-put-clause-keeps
+returns-in_err-put-clause-keeps g c = λ t. keeps_then _ (g.D.Disk.lane_of c.close.new.disk c.args.lane) _ (c.in_ok-close.ensures.keeps t) (c.put.ensures.keeps t)
 
-pub returns-clause-goes_on : goal.returns-clause-goes_on
-returns-clause-goes_on g c = λ t.
+pub returns-clause-keeps : goal.returns-clause-keeps
+returns-clause-keeps g c = λ t.
     let l1 = g.D.Disk.lane_of c.close.new.disk c.args.lane in
     let l2 = g.D.Disk.lane_of c.put.new.disk c.args.lane in
-    goes_on_then _ l1 _ (c.in_ok-close.ensures.goes_on t) (goes_on_then l1 l2 _ (c.in_ok-put.ensures.goes_on t) (c.put-2.ensures.goes_on t))
+    keeps_then _ l1 _ (c.in_ok-close.ensures.keeps t) (keeps_then l1 l2 _ (c.in_ok-put.ensures.keeps t) (c.put-2.ensures.keeps t))

@@ -29,7 +29,7 @@ pub returns-in-Err-append_at-clause-lanes : goal.returns-in-Err-append_at-clause
 returns-in-Err-append_at-clause-lanes g c = rw (← c.self.view_is) (λ t.
     let s = rw (← c.self.view_is) at c.requires.stands in
     let f = rw (← c.self.view_is) at c.requires.follows in
-    appends_at _ c.args.entry.now (g.D.Disk.lane_of c.args.disk.now) (g.D.Disk.lane_of c.append_at.new.disk) c.number_of-lane.result (c.self.inside.size - 1) _ c.number_of-lane.ensures (c.append_at.ensures.others t)
+    appends_at _ c.args.entry.now (g.D.Disk.lane_of c.args.disk.now) (g.D.Disk.lane_of c.append_at.new.disk) c.number_of-lane.result (c.self.inside.size - 1) _ c.number_of-lane.ensures (c.append_at.ensures.uses.others t)
     c.shut_is.ensures c.two_are.ensures c.lower_is.ensures (s t c.if-self.false) (omega (arith, c.self.invariant.4)) f c.is_sound.ensures (extends_err_as _ _ _ _ _ (c.in-Err-append_at.ensures.extends t)))
 
 pub returns-in-Err-append_at-clause-log : goal.returns-in-Err-append_at-clause-log
@@ -42,7 +42,7 @@ pub returns-clause-lanes : goal.returns-clause-lanes
 returns-clause-lanes g c = rw (← c.self.view_is) (λ t.
     let s = rw (← c.self.view_is) at c.requires.stands in
     let f = rw (← c.self.view_is) at c.requires.follows in
-    appends_at _ c.args.entry.now (g.D.Disk.lane_of c.args.disk.now) (g.D.Disk.lane_of c.append_at.new.disk) c.number_of-lane.result (c.self.inside.size - 1) _ c.number_of-lane.ensures (c.append_at.ensures.others t)
+    appends_at _ c.args.entry.now (g.D.Disk.lane_of c.args.disk.now) (g.D.Disk.lane_of c.append_at.new.disk) c.number_of-lane.result (c.self.inside.size - 1) _ c.number_of-lane.ensures (c.append_at.ensures.uses.others t)
     c.shut_is.ensures c.two_are.ensures c.lower_is.ensures (s t c.if-self.false) (omega (arith, c.self.invariant.4)) f c.is_sound.ensures (extends_ok_as _ _ _ _ _ _ (c.in-Ok-append_at.ensures.extends t)))
 
 pub returns-clause-log : goal.returns-clause-log

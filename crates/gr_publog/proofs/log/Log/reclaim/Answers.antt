@@ -55,7 +55,7 @@ returns-in-Err-clause-lanes g c = rw (← c.self.view_is) (λ t.
     let body : body_of (held_by cut (drop c.first_past-from.result c.events.inside.entries.items)) (c.self.inside.generation + 1) ≡ body_of (after_record held (Cut c.args.tick)) (suc c.self.inside.generation) =
     ap₂ (λ (es : List Entry) (k : ℕ). body_of (held_by cut es) k) left next_is in
     let state = kept held (Cut c.args.tick) c.self.invariant.0 (may_cut_is held c.args.tick past upto) tt in
-    reclaims_at _ c.args.tick f f' c.number_of-lane.result _ c.number_of-lane.ensures (c.refill.ensures.others t) c.shut_is.ensures c.two_are.ensures c.lower_is.ensures (c.reclaims.ensures c.self.inside.footing.late) (s t c.if-self.false) c.self.invariant.2 (omega (arith, next)) state
+    reclaims_at _ c.args.tick f f' c.number_of-lane.result _ c.number_of-lane.ensures (c.refill.ensures.uses.others t) c.shut_is.ensures c.two_are.ensures c.lower_is.ensures (c.reclaims.ensures c.self.inside.footing.late) (s t c.if-self.false) c.self.invariant.2 (omega (arith, next)) state
     (subst (λ (b : List ℕ). Refills {T = ℕ} c.self.inside.aside b (f c.number_of-lane.result) (f' c.number_of-lane.result) (Err c.in-Err.fault)) body (c.in-Err.ensures.refills t)))
 
 pub returns-clause-lanes : goal.returns-clause-lanes
@@ -74,7 +74,7 @@ returns-clause-lanes g c = rw (← c.self.view_is) (λ t.
     let body : body_of (held_by cut (drop c.first_past-from.result c.events.inside.entries.items)) (c.self.inside.generation + 1) ≡ body_of (after_record held (Cut c.args.tick)) (suc c.self.inside.generation) =
     ap₂ (λ (es : List Entry) (k : ℕ). body_of (held_by cut es) k) left next_is in
     let state = kept held (Cut c.args.tick) c.self.invariant.0 (may_cut_is held c.args.tick past upto) tt in
-    reclaims_at _ c.args.tick f f' c.number_of-lane.result _ c.number_of-lane.ensures (c.refill.ensures.others t) c.shut_is.ensures c.two_are.ensures c.lower_is.ensures (c.reclaims.ensures c.self.inside.footing.late) (s t c.if-self.false) c.self.invariant.2 (omega (arith, next)) state
+    reclaims_at _ c.args.tick f f' c.number_of-lane.result _ c.number_of-lane.ensures (c.refill.ensures.uses.others t) c.shut_is.ensures c.two_are.ensures c.lower_is.ensures (c.reclaims.ensures c.self.inside.footing.late) (s t c.if-self.false) c.self.invariant.2 (omega (arith, next)) state
     (subst (λ (b : List ℕ). Refills {T = ℕ} c.self.inside.aside b (f c.number_of-lane.result) (f' c.number_of-lane.result) (Ok (c.self.inside.generation + 1))) body (refills_ok_as _ _ _ _ c.in-Ok.size (c.self.inside.generation + 1) (c.in-Ok.ensures.refills t))))
 
 pub returns-clause-log : goal.returns-clause-log
@@ -94,7 +94,7 @@ returns-clause-log g c = rw (← c.self.view_is)
 
 pub returns-clause-others : goal.returns-clause-others
 returns-clause-others g c = rw (← c.self.view_is)
-    (λ t n a. c.refill.ensures.others t n (away c.self.inside.lane n c.number_of-lane.result (not c.self.inside.second) c.number_of-lane.ensures a))
+    (λ t n a. c.refill.ensures.uses.others t n (away c.self.inside.lane n c.number_of-lane.result (not c.self.inside.second) c.number_of-lane.ensures a))
 
 pub invariant_of-self-2 : goal.invariant_of-self-2
 invariant_of-self-2 g c =
