@@ -1,6 +1,7 @@
 //! Laws of lanes: each is the contract of a function that does nothing.
 
 ghost use Rattle.std.specs.Prelude.{◌≡◌, ◌^◌};
+ghost use Rattle.gr_publog.specs.declared.append.TheConstants.{LAST_GATE};
 ghost use Rattle.gr_publog.specs.declared.record.TheConstants.{MAX_TICK};
 ghost use Rattle.gr_publog.specs.State.{BeginsAsState, StaysState};
 ghost use Rattle.gr_publog.specs.Text.{ReadsAsSpelled, SpellsWhatIsRead};
@@ -101,4 +102,9 @@ pub fn stands_found()
 /// The last tick of a log, and its last generation.
 pub fn last_tick_of_logs()
     ensures { MAX_TICK ≡ 2 ^ 62 }
+{}
+
+/// The greatest place of a gate behind which a record is appended: no lane of a real disk is so long.
+pub fn last_gate_of_logs()
+    ensures { LAST_GATE ≡ 2 ^ 62 }
 {}

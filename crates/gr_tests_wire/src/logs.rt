@@ -554,5 +554,6 @@ pub fn laws(page: &mut Page) {
     gr_publog::law::stands_read();
     gr_publog::law::stands_found();
     gr_publog::law::last_tick_of_logs();
+    gr_publog::law::last_gate_of_logs();
     page.push_str("  hold\n");
 }
