@@ -12,7 +12,7 @@ use Rattle.gr_publog.specs.declared.record.Record.{Record}
 use Rattle.gr_publog.specs.declared.record.Record.TheVariants as entry
 use Rattle.gr_publog.specs.Lanes.{lanes_text}
 use Rattle.gr_publog.specs.Crash.{Broke, is_kept}
-use Rattle.gr_publog.specs.Views.{LogView, Lanes, lanes_at, appended, present, other, AwayFrom, found_of, FoundAs, IsReady}
+use Rattle.gr_publog.specs.Views.{LogView, Lanes, lanes_at, appended, present, other, AwayFrom, found_of, FoundAs, StandsRead, IsReady}
 use Rattle.gr_publog.specs.Calls.{Appends, FoundInTurn}
 use Rattle.gr_publog.proofs.Passing.{SameCalls, stands_with}
 use Rattle.gr_pubend.specs.Log.{Log}
@@ -25,7 +25,7 @@ use Rattle.gr_broker_relay.specs.declared.outcome.Outcome.{Outcome}
 use Rattle.gr_broker_relay.specs.Told.{Tells}
 use Rattle.gr_broker.specs.declared.outcome.BrokerFault.{BrokerFault}
 use Rattle.gr_broker.specs.declared.outcome.BrokerFault.TheVariants as refused
-use Rattle.gr_broker.specs.Lanes.{log_lane, either_stopped, AreUnset}
+use Rattle.gr_broker.specs.Lanes.{log_lane, GoesOnBoth, either_stopped, AreUnset}
 use Rattle.gr_broker.specs.Seen.{BrokerView, log_in, log_said, is_broken}
 use Rattle.gr_broker.specs.Of.{LogsStand}
 use Rattle.gr_broker.specs.Told.{log_answer}
@@ -34,14 +34,17 @@ use Rattle.gr_world.specs.declared.fault.WorldFault.{WorldFault}
 use Rattle.gr_world.specs.declared.fault.WorldFault.TheVariants as fault
 use Rattle.gr_world.specs.Lanes.{AreReserved, with_stops}
 use Rattle.gr_world.specs.Seen.{WorldView, broker_in, log_at, net_in}
-use Rattle.gr_world.specs.Of.{IsReadable, LanesFit}
+use Rattle.gr_world.specs.Of.{LaneFits, IsReadable, LanesFit}
 use Rattle.gr_world.specs.Disk.{IsBarred}
 use Rattle.gr_world.specs.Ran.{IsOpen, Ran}
+use Rattle.gr_world.specs.Moments.{IsCall, CallsLanes}
 use Rattle.gr_world.specs.Taking.{Follows, TakesUp, put_in}
 use Rattle.gr_world.specs.Stopped.{tick_in, is_broken_by, stopped_log, IsStoppedAt}
 use Rattle.gr_world.proofs.Lanes.{LaneMoves, of_both, other_lanes, lanes_fit}
 use Rattle.gr_world.proofs.Called.{Called, Site, site_read, site_fits, site_publisher}
-use Rattle.gr_world.proofs.Published.{Publishes, PublishesOn, publish_in, publish_called, ran_publish, reopens_publish, moves}
+use Rattle.gr_world.proofs.ByCalls.{SameBoth, same_stops, call_with, appends_call, lanes_of_one}
+use Rattle.gr_world.proofs.Logged.{still_lanes}
+use Rattle.gr_world.proofs.Published.{publishing, Publishes, PublishesOn, publish_in, publish_called, ran_publish, reopens_publish, moves}
 use Rattle.gr_world.proofs.StoppedOver.{next_at}
 
 -- The tick
@@ -268,6 +271,31 @@ module _ (v w : WorldView) (b p number : ℕ) (e : Event) (x after : BrokerView)
   pub reserved_left : (before mid left : ℕ → Lane) (stop : LaneStop) → lanes_at mid (log_lane p) ≡ with_stops stop (lanes_at before (log_lane p)) → AreReserved (lanes_at before (log_lane p)) → PublishesOn x p v.clock number e after mid left answer
       → AreReserved (lanes_at left (log_lane p))
   reserved_left before mid left stop ordered r on = let m = moved mid left on in m.reserved (subst AreReserved (sym ordered) (reserved_with stop (lanes_at before (log_lane p)) r))
+
+  -- within the call the lanes hold at every moment what they held, or that with the record, also where the stop is ended behind it
+  pub stopped_calls : StandsRead → (before mid left ended : ℕ → Lane) (stop : LaneStop) (l : LogView) → log_at w p ≡ Some l → LaneFits l (lanes_at before (log_lane p)) → lanes_at mid (log_lane p) ≡ with_stops stop (lanes_at before (log_lane p))
+      → PublishesOn x p v.clock number e after mid left answer → GoesOnBoth (lanes_at mid (log_lane p)) (lanes_at left (log_lane p)) → SameBoth (lanes_at left (log_lane p)) (lanes_at ended (log_lane p))
+      → ((m : ℕ) → AwayFrom (log_lane p) m → ended m ≡ before m) → CallsLanes w.topo before ended
+  stopped_calls read before mid left ended stop l h fit ordered on goes same others = lanes_of_one w.topo before ended p s.publisher others one
+    where
+      old : Lanes
+      old = lanes_at before (log_lane p)
+
+      set : Lanes
+      set = lanes_at mid (log_lane p)
+
+      now : Lanes
+      now = lanes_at left (log_lane p)
+
+      quiet : l.broken ≡ true → now ≡ set
+      quiet broken = still_lanes v.topo (publishing v.topo p v.clock number e) x after p mid left answer k on (ap is_broken (sym there ∙ h) ∙ broken)
+
+      call : IsCall w.topo.late set now
+      call =
+          appends_call read w.topo.late l set now (late_is l h) (subst (IsReady l) (sym ordered) (ready_with l stop old fit.ready)) goes quiet (publish_logs_at x p v.clock number e) (log_answer answer) (appends_there mid left l h on.lane)
+
+      one : IsCall w.topo.late old (lanes_at ended (log_lane p))
+      one = call_with w.topo.late old set now (lanes_at ended (log_lane p)) (subst (SameBoth old) (sym ordered) (same_stops stop old)) same call
 
   -- where the stop is ended the lanes fit what is left
   pub ended_fit : (frames : List (List ℕ)) (result : Result (List Report) WorldFault) (before mid left ended : ℕ → Lane) (stop : LaneStop) → Follows answer result → ((o : MachineOutcome) → IfOk answer (Tells o) → TakesUp o v.frames frames result)

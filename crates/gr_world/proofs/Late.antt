@@ -4,7 +4,7 @@ use Rattle.std.specs.Prelude.{◌↔◌, is_some, IfOk, IsErrOf}
 use Rattle.std.specs.List.{AllByRecursion}
 use Rattle.std.proofs.lemmas.Bool.{and_from, eq-eqb, false≢true}
 use Rattle.gr_out.specs.Lane.{Lane}
-use Rattle.gr_publog.specs.Views.{LogView}
+use Rattle.gr_publog.specs.Views.{LogView, lanes_at, StandsRead}
 use Rattle.gr_topo.specs.Topology.{TopologyView, host_of, late_of}
 use Rattle.gr_model.specs.declared.report.Report.{Report}
 use Rattle.gr_model.specs.Net.{all_late}
@@ -17,6 +17,7 @@ use Rattle.gr_model_calls.proofs.topology.Strays.{joining_on}
 use Rattle.gr_broker_relay.specs.declared.outcome.Outcome.{Outcome}
 use Rattle.gr_broker_relay.specs.Told.{Tells}
 use Rattle.gr_broker.specs.declared.outcome.BrokerFault.{BrokerFault}
+use Rattle.gr_broker.specs.Lanes.{log_lane, GoesOnBoth}
 use Rattle.gr_broker.specs.Seen.{BrokerView, view_in, log_in, log_said, machine_log}
 use Rattle.gr_broker.specs.Hosted.{join_at, join_logs_at}
 use Rattle.gr_world.specs.declared.fault.WorldFault.{WorldFault}
@@ -26,13 +27,14 @@ use Rattle.gr_world.specs.Of.{IsWorld, LanesFit}
 use Rattle.gr_world.specs.Steps.{Does}
 use Rattle.gr_world.specs.Disk.{IsBarredJoin}
 use Rattle.gr_world.specs.Ran.{Ran}
+use Rattle.gr_world.specs.Moments.{CallsLanes}
 use Rattle.gr_world.specs.Stopped.{broken_in}
 use Rattle.gr_world.specs.Taking.{Follows, TakesUp, put_in}
 use Rattle.gr_report.proofs.Named.{all_of}
 use Rattle.gr_report.proofs.Passing.{seen_edges}
 use Rattle.gr_world.proofs.Absorbing.{view_is, log_is}
 use Rattle.gr_world.proofs.Called.{Site, site_fits, site_publisher}
-use Rattle.gr_world.proofs.Logged.{Call, Logs, LogsOn, does_logged, ran_logged, lanes_logged, reopens_logged, unchanged_logged, failed_logged}
+use Rattle.gr_world.proofs.Logged.{Call, Logs, LogsOn, does_logged, ran_logged, lanes_logged, calls_logged, reopens_logged, unchanged_logged, failed_logged}
 
 -- The call
 
@@ -130,6 +132,9 @@ module _ (v w : WorldView) (b p s : ℕ) (x after : BrokerView) (frames : List (
 
   pub lanes_join : (lanes lanes' : ℕ → Lane) → LanesFit lanes w → JoinsOn x p s v.clock after lanes lanes' answer → LanesFit lanes' (put_in v b after frames)
   lanes_join lanes lanes' fit on = lanes_logged v w b p call one x after frames answer result site host k f takes same over lanes lanes' fit on
+
+  pub calls_join : StandsRead → (lanes lanes' : ℕ → Lane) → LanesFit lanes w → JoinsOn x p s v.clock after lanes lanes' answer → GoesOnBoth (lanes_at lanes (log_lane p)) (lanes_at lanes' (log_lane p)) → CallsLanes w.topo lanes lanes'
+  calls_join read lanes lanes' fit on goes = calls_logged v w b p call one x after frames answer result site host k f takes same over read lanes lanes' fit on goes
 
   -- It is answered `Reopen` exactly where it would append to a broken log, and then nothing has changed
   pub reopens_join : IsErrOf result fault.Reopen ↔ IsBarredJoin w p s

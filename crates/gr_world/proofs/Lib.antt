@@ -24,6 +24,7 @@ pub mod Again
 pub mod Crashing
 pub mod Answering
 pub mod Joining
+pub mod ByCalls
 pub mod Onward
 pub mod Moments
 pub mod Swept

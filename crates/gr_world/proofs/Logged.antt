@@ -8,7 +8,7 @@ use Rattle.std.proofs.lemmas.List.{set-get_or}
 use Rattle.gr_out.specs.Lane.{Lane}
 use Rattle.gr_publog.specs.declared.record.Record.{Record}
 use Rattle.gr_publog.specs.declared.record.LogFault.TheVariants as log_fault
-use Rattle.gr_publog.specs.Views.{LogView, lanes_at, AwayFrom}
+use Rattle.gr_publog.specs.Views.{LogView, lanes_at, AwayFrom, StandsRead}
 use Rattle.gr_publog.specs.Calls.{Appends, Leaves}
 use Rattle.gr_topo.specs.Topology.{TopologyView, host_of}
 use Rattle.gr_model.specs.declared.report.Report.{Report}
@@ -19,7 +19,7 @@ use Rattle.gr_broker_relay.specs.declared.outcome.Outcome.{Outcome}
 use Rattle.gr_broker_relay.specs.Told.{Tells}
 use Rattle.gr_broker.specs.declared.outcome.BrokerFault.{BrokerFault}
 use Rattle.gr_broker.specs.declared.outcome.BrokerFault.TheVariants as refused
-use Rattle.gr_broker.specs.Lanes.{log_lane}
+use Rattle.gr_broker.specs.Lanes.{log_lane, GoesOnBoth}
 use Rattle.gr_broker.specs.Seen.{BrokerView, log_in, log_said, machine_log, with_logged, is_broken, logged_at, broken_at}
 use Rattle.gr_broker.specs.Of.{IsBrokerOf, LogsStand}
 use Rattle.gr_broker.specs.Told.{log_answer}
@@ -31,10 +31,12 @@ use Rattle.gr_world.specs.Of.{IsWorld, LanesFit}
 use Rattle.gr_world.specs.Steps.{Does}
 use Rattle.gr_world.specs.Ran.{IsOpen, Ran}
 use Rattle.gr_world.specs.Stopped.{broken_in}
+use Rattle.gr_world.specs.Moments.{IsCall, CallsLanes}
 use Rattle.gr_world.specs.Taking.{Follows, TakesUp, put_in}
 use Rattle.gr_world.proofs.Absorbing.{Touches, log_here}
 use Rattle.gr_world.proofs.Answers.{on_ok, ok_answer, ok_follows, spelled_follow, disk_follows, reopen_follows, reopen_told, not_disk, carried_follows, leaves_on, touched, touched_broken, untouched, whole_logged, whole_with, closes, logged_none, log_same, failed_same}
 use Rattle.gr_world.proofs.Lanes.{LaneMoves, appends_moves, lanes_same, lanes_fit}
+use Rattle.gr_world.proofs.ByCalls.{ready_here, appends_call, lanes_of_one}
 use Rattle.gr_world.proofs.Called.{Called, called_does, Site, site_read, site_fits, site_publisher, site_ran}
 
 -- A call of a broker: its machine's outcome, and the record that it logs or none
@@ -57,6 +59,15 @@ pub record LogsOn (logs : BrokerView → Option Record) (x : BrokerView) (p : �
   pub untouched : logs x ≡ None → (n : ℕ) → lanes' n ≡ lanes n
   pub others : (n : ℕ) → AwayFrom (log_lane p) n → lanes' n ≡ lanes n
   pub stands : LogsStand lanes' after
+
+-- the lanes of a log that the disk has failed stay
+pub still_lanes : (t : TopologyView) (call : Call) (x after : BrokerView) (p : ℕ) (lanes lanes' : ℕ → Lane) (answer : Result Outcome BrokerFault) → Logs t call x p after answer → LogsOn call.logs x p after lanes lanes' answer
+    → is_broken (log_in x p) ≡ true → lanes_at lanes' (log_lane p) ≡ lanes_at lanes (log_lane p)
+still_lanes t call x after p lanes lanes' answer k on broken = go (call.logs x) refl
+  where
+    go : (r : Option Record) → call.logs x ≡ r → lanes_at lanes' (log_lane p) ≡ lanes_at lanes (log_lane p)
+    go None h = lanes_same lanes lanes' (log_lane p) (on.untouched h (log_lane p)) (on.untouched h (suc (log_lane p)))
+    go (Some r) h = let idle = on.idle (k.reopen.1 (broken, ap is_some h)) in lanes_same lanes lanes' (log_lane p) (idle (log_lane p)) (idle (suc (log_lane p)))
 
 module _ (w : WorldView) (b p : ℕ) (call : Call) (one : MachineOutcome) (i : IsWorld w) (lt : b < length w.topo.brokers) (below : p < length w.topo.publishers) (at : host_of w.topo p ≡ b) where
   abbrev broker : BrokerView
@@ -111,22 +122,13 @@ module _ (w : WorldView) (b p : ℕ) (call : Call) (one : MachineOutcome) (i : I
 
   -- The lanes
 
-  -- the lanes of a log that the disk has failed stay
-  still : (after : BrokerView) (lanes lanes' : ℕ → Lane) (answer : Result Outcome BrokerFault) → Logs w.topo call broker p after answer → LogsOn call.logs broker p after lanes lanes' answer
-      → is_broken (log_in broker p) ≡ true → lanes_at lanes' (log_lane p) ≡ lanes_at lanes (log_lane p)
-  still after lanes lanes' answer k on broken = go (call.logs broker) refl
-    where
-      go : (r : Option Record) → call.logs broker ≡ r → lanes_at lanes' (log_lane p) ≡ lanes_at lanes (log_lane p)
-      go None h = lanes_same lanes lanes' (log_lane p) (on.untouched h (log_lane p)) (on.untouched h (suc (log_lane p)))
-      go (Some r) h = let idle = on.idle (k.reopen.1 (broken, ap is_some h)) in lanes_same lanes lanes' (log_lane p) (idle (log_lane p)) (idle (suc (log_lane p)))
-
-  -- and any others are left with what the log held, or with that and the further record
+  -- they are left with what the log held, or with that and the further record
   abbrev Appended : Option LogView → (ℕ → Lane) → (ℕ → Lane) → Result Outcome BrokerFault → Type 0
   Appended o lanes lanes' answer = elim o [ Some l ↦ Appends l (call.logs broker) (lanes_at lanes (log_lane p)) (lanes_at lanes' (log_lane p)) (log_answer answer) | None ↦ Unit {0} ]
 
   pub moves : (after : BrokerView) (lanes lanes' : ℕ → Lane) (answer : Result Outcome BrokerFault) → Logs w.topo call broker p after answer → LogsOn call.logs broker p after lanes lanes' answer
       → LaneMoves w.topo.late (lanes_at lanes (log_lane p)) (lanes_at lanes' (log_lane p))
-  moves after lanes lanes' answer k on = go (log_in broker p) refl on.lane hosted (still after lanes lanes' answer k on)
+  moves after lanes lanes' answer k on = go (log_in broker p) refl on.lane hosted (still_lanes w.topo call broker after p lanes lanes' answer k on)
     where
       go : (o : Option LogView) → log_in broker p ≡ o → Appended o lanes lanes' answer → is_some o ≡ true → (is_broken o ≡ true → lanes_at lanes' (log_lane p) ≡ lanes_at lanes (log_lane p)) → LaneMoves w.topo.late (lanes_at lanes (log_lane p)) (lanes_at lanes' (log_lane p))
       go (Some l) is a s quiet =
@@ -138,6 +140,17 @@ module _ (w : WorldView) (b p : ℕ) (call : Call) (one : MachineOutcome) (i : I
       → LanesFit lanes' (put_in w b after frames)
   logs_lanes after frames lanes lanes' answer result is_open fit k on c =
       lanes_fit w b p after frames lanes lanes' i lt below c.touches is_open fit on.others (λ h. moves after lanes lanes' answer k on) (λ n. absurd (n at)) on.stands
+
+  -- within the call they hold at every moment what they held, or that with the record
+  pub logs_calls : StandsRead → (after : BrokerView) (lanes lanes' : ℕ → Lane) (answer : Result Outcome BrokerFault) → IsOpen w → LanesFit lanes w → Logs w.topo call broker p after answer → LogsOn call.logs broker p after lanes lanes' answer
+      → GoesOnBoth (lanes_at lanes (log_lane p)) (lanes_at lanes' (log_lane p)) → CallsLanes w.topo lanes lanes'
+  logs_calls read after lanes lanes' answer is_open fit k on goes = lanes_of_one w.topo lanes lanes' p below on.others (go (log_in broker p) refl on.lane hosted (still_lanes w.topo call broker after p lanes lanes' answer k on))
+    where
+      go : (o : Option LogView) → log_in broker p ≡ o → Appended o lanes lanes' answer → is_some o ≡ true → (is_broken o ≡ true → lanes_at lanes' (log_lane p) ≡ lanes_at lanes (log_lane p))
+          → IsCall w.topo.late (lanes_at lanes (log_lane p)) (lanes_at lanes' (log_lane p))
+      go (Some l) is a s quiet =
+          appends_call read w.topo.late l (lanes_at lanes (log_lane p)) (lanes_at lanes' (log_lane p)) ((i.brokers b lt).late p l is) (ready_here w b p lanes l is_open fit below at is) goes quiet (call.logs broker) (log_answer answer) a
+      go None is a s quiet = absurd (false≢true s)
 
 -- The call in code, where the world is seen by its parts and the host is read from the topology
 
@@ -159,6 +172,12 @@ module _ (v w : WorldView) (b p : ℕ) (call : Call) (one : MachineOutcome) (x a
     lanes_logged lanes lanes' fit on =
         logs_lanes v b p call one (site_fits v w b p x s) s.broker (site_publisher v w b p x s) host after frames lanes lanes' answer result
         (subst IsOpen (sym s.same) s.is_open) (subst (LanesFit lanes) (sym s.same) fit) here (subst (λ (z : BrokerView). LogsOn call.logs z p after lanes lanes' answer) (site_read v w b p x s) on) site_called
+
+    pub calls_logged : StandsRead → (lanes lanes' : ℕ → Lane) → LanesFit lanes w → LogsOn call.logs x p after lanes lanes' answer → GoesOnBoth (lanes_at lanes (log_lane p)) (lanes_at lanes' (log_lane p)) → CallsLanes w.topo lanes lanes'
+    calls_logged read lanes lanes' fit on goes =
+        subst (λ (u : WorldView). CallsLanes u.topo lanes lanes') s.same
+        (logs_calls v b p call one (site_fits v w b p x s) s.broker (site_publisher v w b p x s) host read after lanes lanes' answer
+        (subst IsOpen (sym s.same) s.is_open) (subst (LanesFit lanes) (sym s.same) fit) here (subst (λ (z : BrokerView). LogsOn call.logs z p after lanes lanes' answer) (site_read v w b p x s) on) goes)
 
   -- It is answered `Reopen` exactly where it would append to a broken log, and then nothing has changed
 

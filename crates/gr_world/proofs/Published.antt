@@ -4,7 +4,7 @@ use Rattle.std.specs.Prelude.{◌↔◌, IfOk, IsErrOf}
 use Rattle.std.specs.List.{AllByRecursion}
 use Rattle.gr_event.specs.declared.event.Event.{Event}
 use Rattle.gr_out.specs.Lane.{Lane}
-use Rattle.gr_publog.specs.Views.{lanes_at}
+use Rattle.gr_publog.specs.Views.{lanes_at, StandsRead}
 use Rattle.gr_topo.specs.Topology.{TopologyView, host_of}
 use Rattle.gr_model.specs.declared.report.Report.{Report}
 use Rattle.gr_model.specs.Net.{all_late}
@@ -15,7 +15,7 @@ use Rattle.gr_model_calls.specs.Edges.{GoesOverEdge}
 use Rattle.gr_model_calls.proofs.topology.Strays.{publish_on}
 use Rattle.gr_broker_relay.specs.declared.outcome.Outcome.{Outcome}
 use Rattle.gr_broker_relay.specs.Told.{Tells}
-use Rattle.gr_broker.specs.Lanes.{log_lane}
+use Rattle.gr_broker.specs.Lanes.{log_lane, GoesOnBoth}
 use Rattle.gr_broker.specs.declared.outcome.BrokerFault.{BrokerFault}
 use Rattle.gr_broker.specs.Seen.{BrokerView, view_in, log_in, log_said, machine_log}
 use Rattle.gr_broker.specs.Hosted.{publish_at, publish_logs_at}
@@ -26,6 +26,7 @@ use Rattle.gr_world.specs.Of.{IsWorld, LanesFit}
 use Rattle.gr_world.specs.Steps.{Does}
 use Rattle.gr_world.specs.Disk.{IsBarred}
 use Rattle.gr_world.specs.Ran.{Ran}
+use Rattle.gr_world.specs.Moments.{CallsLanes}
 use Rattle.gr_world.specs.Stopped.{broken_in}
 use Rattle.gr_world.specs.Taking.{Follows, TakesUp, put_in}
 use Rattle.gr_report.proofs.Named.{all_of}
@@ -33,7 +34,7 @@ use Rattle.gr_report.proofs.Passing.{seen_edges}
 use Rattle.gr_world.proofs.Absorbing.{view_is, log_is}
 use Rattle.gr_world.proofs.Lanes.{LaneMoves}
 use Rattle.gr_world.proofs.Called.{Called, Site, site_fits, site_publisher}
-use Rattle.gr_world.proofs.Logged.{Call, Logs, LogsOn, logs_called, does_logged, ran_logged, lanes_logged, reopens_logged, unchanged_logged, failed_logged}
+use Rattle.gr_world.proofs.Logged.{Call, Logs, LogsOn, logs_called, does_logged, ran_logged, lanes_logged, calls_logged, reopens_logged, unchanged_logged, failed_logged}
 use Rattle.gr_world.proofs.Logged as logged
 
 -- The call
@@ -122,6 +123,9 @@ module _ (v w : WorldView) (b p number : ℕ) (e : Event) (x after : BrokerView)
 
   pub lanes_publish : (lanes lanes' : ℕ → Lane) → LanesFit lanes w → PublishesOn x p v.clock number e after lanes lanes' answer → LanesFit lanes' (put_in v b after frames)
   lanes_publish lanes lanes' fit on = lanes_logged v w b p call one x after frames answer result s host k f takes same over lanes lanes' fit on
+
+  pub calls_publish : StandsRead → (lanes lanes' : ℕ → Lane) → LanesFit lanes w → PublishesOn x p v.clock number e after lanes lanes' answer → GoesOnBoth (lanes_at lanes (log_lane p)) (lanes_at lanes' (log_lane p)) → CallsLanes w.topo lanes lanes'
+  calls_publish read lanes lanes' fit on goes = calls_logged v w b p call one x after frames answer result s host k f takes same over read lanes lanes' fit on goes
 
   -- It is answered `Reopen` exactly where it would append to a broken log, and then nothing has changed
   pub reopens_publish : IsErrOf result fault.Reopen ↔ IsBarred w p number e

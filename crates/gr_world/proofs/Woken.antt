@@ -6,7 +6,7 @@ use Rattle.std.proofs.lemmas.Bool.{cases_eq, eq-eqb, ne_eqb, true≢false}
 use Rattle.std.proofs.lemmas.List.{length-set, get_or-set_other}
 use Rattle.gr_publog.specs.declared.record.Record.{Record}
 use Rattle.gr_publog.specs.declared.record.LogFault.TheVariants as log_fault
-use Rattle.gr_publog.specs.Views.{LogView, lanes_at, AwayFrom}
+use Rattle.gr_publog.specs.Views.{LogView, lanes_at, AwayFrom, StandsRead}
 use Rattle.gr_out.specs.Lane.{Lane}
 use Rattle.gr_topo.specs.Topology.{TopologyView, host_of}
 use Rattle.gr_model.specs.declared.report.Report.{Report}
@@ -21,7 +21,7 @@ use Rattle.gr_broker_relay.specs.declared.outcome.Outcome.{Outcome}
 use Rattle.gr_broker_relay.specs.Told.{Tells}
 use Rattle.gr_broker.specs.declared.outcome.BrokerFault.{BrokerFault}
 use Rattle.gr_broker.specs.declared.outcome.BrokerFault.TheVariants as refused
-use Rattle.gr_broker.specs.Lanes.{log_lane}
+use Rattle.gr_broker.specs.Lanes.{log_lane, GoesOnBoth}
 use Rattle.gr_broker.specs.Seen.{BrokerView, view_in, log_in, log_said, machine_log, with_logged, with_cut_if, is_broken, broken_at}
 use Rattle.gr_broker.specs.Of.{IsBrokerOf, LogsStand}
 use Rattle.gr_broker.specs.Told.{log_answer}
@@ -36,10 +36,12 @@ use Rattle.gr_world.specs.Steps.{Does}
 use Rattle.gr_world.specs.Disk.{IsWakeBarred}
 use Rattle.gr_world.specs.Ended.{WakeEnds, marked_broken_in}
 use Rattle.gr_world.specs.Ran.{IsOpen, Ran, TouchesOne}
+use Rattle.gr_world.specs.Moments.{IsCall, CallsLanes}
 use Rattle.gr_world.specs.Taking.{Follows, TakesUp, put_in}
 use Rattle.gr_world.proofs.Absorbing.{Touches, view_is, log_is, log_here, log_elsewhere, broker_here, broker_there}
 use Rattle.gr_world.proofs.Answers.{on_ok, ok_answer, ok_follows, spelled_follow, reopen_follows, not_disk, carried_follows, wake_leaves_on, touched, touched_broken, touched_twice, untouched, whole_logged, whole_cut, whole_with, closes, cut_none, logged_none, log_same, failed_same, reopen_told, disk_follows}
 use Rattle.gr_world.proofs.Lanes.{LaneMoves, wakes_moves, lanes_same, lanes_fit}
+use Rattle.gr_world.proofs.ByCalls.{no_call, ready_here, wakes_call, lanes_of_one}
 use Rattle.gr_world.proofs.Called.{Called, called_does, Site, site_read, site_fits, site_publisher, site_ran, put_back}
 
 -- What the broker's call gives
@@ -228,6 +230,23 @@ module _ (w : WorldView) (b p : ℕ) (i : IsWorld w) (lt : b < length w.topo.bro
       both_same : ((n : ℕ) → lanes' n ≡ lanes n) → lanes_at lanes' (log_lane p) ≡ lanes_at lanes (log_lane p)
       both_same e = lanes_same lanes lanes' (log_lane p) (e (log_lane p)) (e (suc (log_lane p)))
 
+  -- within the call they hold at every moment what they held, or that with the mark, or with the cut besides
+  pub wake_calls : StandsRead → (after : BrokerView) (lanes lanes' : ℕ → Lane) (answer : Result Outcome BrokerFault) → IsOpen w → LanesFit lanes w → WakesOn w.topo broker p w.clock after lanes lanes' answer
+      → GoesOnBoth (lanes_at lanes (log_lane p)) (lanes_at lanes' (log_lane p)) → CallsLanes w.topo lanes lanes'
+  wake_calls read after lanes lanes' answer is_open fit on goes = lanes_of_one w.topo lanes lanes' p below on.others (go (log_in broker p) refl on.lane)
+    where
+      both_same : ((n : ℕ) → lanes' n ≡ lanes n) → lanes_at lanes' (log_lane p) ≡ lanes_at lanes (log_lane p)
+      both_same e = lanes_same lanes lanes' (log_lane p) (e (log_lane p)) (e (suc (log_lane p)))
+
+      here : (l : LogView) → log_in broker p ≡ Some l → host_of w.topo p ≡ b
+      here l is = elim (cases_eq (host_of w.topo p) b) [ inl e ↦ e | inr n ↦ absurd (cc (no_log n, is)) ]
+
+      go : (o : Option LogView) → log_in broker p ≡ o → Logs o lanes lanes' answer → IsCall w.topo.late (lanes_at lanes (log_lane p)) (lanes_at lanes' (log_lane p))
+      go (Some l) is a =
+          wakes_call read w.topo.late l (lanes_at lanes (log_lane p)) (lanes_at lanes' (log_lane p)) ((i.brokers b lt).late p l is) (ready_here w b p lanes l is_open fit below (here l is) is) goes
+          (λ h. both_same (on.broken (ap is_broken is ∙ h))) (mark_logs_at w.topo broker p w.clock) (cut_at w.topo broker p w.clock) w.topo.settings.reclaim (log_answer answer) a
+      go None is a = no_call w.topo.late (lanes_at lanes (log_lane p)) (lanes_at lanes' (log_lane p)) (both_same (on.below is))
+
 -- The call in code, where the world is seen by its parts
 
 module _ (v w : WorldView) (b p : ℕ) (x after : BrokerView) (frames : List (List ℕ)) (answer : Result Outcome BrokerFault) (result : Result (List Report) WorldFault) (s : Site v w b p x) (n : IsNet (net_in v)) (k : Wakes v.topo x p v.clock after answer) (f : Follows answer result) (takes : (o : MachineOutcome) → IfOk answer (Tells o) → TakesUp o v.frames frames result) where
@@ -248,6 +267,12 @@ module _ (v w : WorldView) (b p : ℕ) (x after : BrokerView) (frames : List (Li
   lanes_wake lanes lanes' fit on =
       wake_lanes v b p (site_fits v w b p x s) s.broker (site_publisher v w b p x s) after frames lanes lanes' answer result
       (subst IsOpen (sym s.same) s.is_open) (subst (LanesFit lanes) (sym s.same) fit) (subst (λ (z : BrokerView). WakesOn v.topo z p v.clock after lanes lanes' answer) (site_read v w b p x s) on) called
+
+  pub calls_wake : StandsRead → (lanes lanes' : ℕ → Lane) → LanesFit lanes w → WakesOn v.topo x p v.clock after lanes lanes' answer → GoesOnBoth (lanes_at lanes (log_lane p)) (lanes_at lanes' (log_lane p)) → CallsLanes w.topo lanes lanes'
+  calls_wake read lanes lanes' fit on goes =
+      subst (λ (u : WorldView). CallsLanes u.topo lanes lanes') s.same
+      (wake_calls v b p (site_fits v w b p x s) s.broker (site_publisher v w b p x s) read after lanes lanes' answer
+      (subst IsOpen (sym s.same) s.is_open) (subst (LanesFit lanes) (sym s.same) fit) (subst (λ (z : BrokerView). WakesOn v.topo z p v.clock after lanes lanes' answer) (site_read v w b p x s) on) goes)
 
   -- It is answered `Reopen` exactly where it would append to a broken log, and then nothing has changed
 

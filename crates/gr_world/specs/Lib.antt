@@ -3,6 +3,7 @@ pub mod Lanes
 pub mod Of
 pub mod Steps
 pub mod Disk
+pub mod Moments
 pub mod Ran
 pub mod Opened
 pub mod Shown

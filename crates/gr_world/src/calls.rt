@@ -8,7 +8,8 @@ ghost use Rattle.gr_world.specs.Seen.{net_in, world_of, log_at};
 ghost use Rattle.gr_world.specs.Of.{IsWorld, LanesFit};
 ghost use Rattle.gr_world.specs.Steps.{Does};
 ghost use Rattle.gr_world.specs.Ran.{IsOpen, Ran, TouchesOne};
-ghost use Rattle.gr_world.specs.Disk.{UsesDisk, LeavesOthers, IsBarred, IsBarredJoin, IsWakeBarred};
+ghost use Rattle.gr_world.specs.Disk.{UsesDisk, IsBarred, IsBarredJoin, IsWakeBarred};
+ghost use Rattle.gr_world.specs.Moments.{CallsLanes};
 ghost use Rattle.gr_world.specs.Ended.{WakeEnds};
 ghost use Rattle.gr_world.specs.Stopped.{broken_in};
 
@@ -21,6 +22,7 @@ use gr_event::Event;
 use gr_model::Reports;
 use gr_model::topologies::every_topology_is_a_tree;
 use gr_out::SimDisk;
+use gr_publog::law::stands_read;
 
 impl World {
     /// Publishes an event at the publisher's host.
@@ -42,11 +44,12 @@ impl World {
         ensures failed { IsErrOf result WorldFault.Disk → self.new ≡ broken_in self.old (host_of self.old.topo p) p }
         ensures disk { UsesDisk (D.faultless disk.old) (D.faultless disk.new) (D.faults disk.old)
             (D.stops disk.old) (D.faults disk.new) (D.stops disk.new) result }
-        ensures others { LeavesOthers self.old.topo (D.lane_of disk.old) (D.lane_of disk.new) }
+        ensures calls { CallsLanes self.old.topo (D.lane_of disk.old) (D.lane_of disk.new) }
         ensures lanes { LanesFit (D.lane_of disk.new) self.new }
     {
-        // Proof only: what is sent goes over edges.
+        // Proof only: what is sent goes over edges, and lanes in which a log stands read as it.
         every_topology_is_a_tree(&self.topology);
+        stands_read();
         let host = self.topology.host(p);
         self.last.set(host);
         let broker = &mut self.brokers[host as usize];
@@ -73,11 +76,12 @@ impl World {
         ensures failed { IsErrOf result WorldFault.Disk → self.new ≡ broken_in self.old (host_of self.old.topo p) p }
         ensures disk { UsesDisk (D.faultless disk.old) (D.faultless disk.new) (D.faults disk.old)
             (D.stops disk.old) (D.faults disk.new) (D.stops disk.new) result }
-        ensures others { LeavesOthers self.old.topo (D.lane_of disk.old) (D.lane_of disk.new) }
+        ensures calls { CallsLanes self.old.topo (D.lane_of disk.old) (D.lane_of disk.new) }
         ensures lanes { LanesFit (D.lane_of disk.new) self.new }
     {
-        // Proof only: what is sent goes over edges.
+        // Proof only: what is sent goes over edges, and lanes in which a log stands read as it.
         every_topology_is_a_tree(&self.topology);
+        stands_read();
         let host = self.topology.host(p);
         self.last.set(host);
         let broker = &mut self.brokers[host as usize];
@@ -127,11 +131,12 @@ impl World {
         ensures apart { TouchesOne b p self.old self.new }
         ensures disk { UsesDisk (D.faultless disk.old) (D.faultless disk.new) (D.faults disk.old)
             (D.stops disk.old) (D.faults disk.new) (D.stops disk.new) result }
-        ensures others { LeavesOthers self.old.topo (D.lane_of disk.old) (D.lane_of disk.new) }
+        ensures calls { CallsLanes self.old.topo (D.lane_of disk.old) (D.lane_of disk.new) }
         ensures lanes { LanesFit (D.lane_of disk.new) self.new }
     {
-        // Proof only: what is sent goes over edges.
+        // Proof only: what is sent goes over edges, and lanes in which a log stands read as it.
         every_topology_is_a_tree(&self.topology);
+        stands_read();
         let broker = &mut self.brokers[b as usize];
         let answer = broker.wake(&self.topology, disk, p, self.clock);
         take_answer(&mut self.frames, answer)

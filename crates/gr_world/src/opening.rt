@@ -17,6 +17,7 @@ ghost use Rattle.gr_world.specs.Opened.{NoStops, AreEmpty, IsFound, IsLeft, IsOp
 ghost use Rattle.gr_world.specs.Opened.{with_down, Crashes, IsFirstDamaged};
 ghost use Rattle.gr_world.specs.Steps.{Makes, Refuses, Spends, Stays, Does, IsCarried, refused_at};
 ghost use Rattle.gr_world.specs.Disk.{Counts, StaysSound, NotDisk, UsesDisk, LeavesOthers};
+ghost use Rattle.gr_world.specs.Starting.{TouchesLanes};
 ghost use Rattle.gr_world.specs.Fits.{Fits, GoesOn};
 
 use crate::fault::{Memory, WorldFault, world_fault};
@@ -154,7 +155,7 @@ impl World {
         ensures faultless { StaysFaultless (D.faultless disk.old) (D.faultless disk.new)
             (D.faults disk.old) (D.faults disk.new) }
         ensures never_fails { D.faultless disk.old → result ≢ Err WorldFault.Disk }
-        ensures others { LeavesOthers self.old.topo (D.lane_of disk.old) (D.lane_of disk.new) }
+        ensures touches { TouchesLanes self.old.topo b (D.lane_of disk.old) (D.lane_of disk.new) }
         // but after want of memory, when no call uses the lanes any more
         ensures lanes { (result ≢ Err WorldFault.Memory) → LanesFit (D.lane_of disk.new) self.new }
     {
@@ -196,7 +197,7 @@ impl World {
         ensures faultless { StaysFaultless (D.faultless disk.old) (D.faultless disk.new)
             (D.faults disk.old) (D.faults disk.new) }
         ensures never_fails { D.faultless disk.old → result ≢ Err WorldFault.Disk }
-        ensures others { LeavesOthers self.old.topo (D.lane_of disk.old) (D.lane_of disk.new) }
+        ensures touches { TouchesLanes self.old.topo b (D.lane_of disk.old) (D.lane_of disk.new) }
         ensures lanes { (result ≢ Err WorldFault.Memory) → LanesFit (D.lane_of disk.new) self.new }
     {
         // Proof only: what a crash leaves of lanes in which a log stands stands for it.
@@ -244,7 +245,9 @@ impl World {
         ensures sound { StaysSound self.old self.new result }
         ensures disk { UsesDisk (D.faultless disk.old) (D.faultless disk.new) (D.faults disk.old)
             (D.stops disk.old) (D.faults disk.new) (D.stops disk.new) result }
-        ensures others { LeavesOthers self.old.topo (D.lane_of disk.old) (D.lane_of disk.new) }
+        // At every moment since the crash the lanes of the broker hold what it has left
+        ensures touches { (disk.new ≡ disk.old)
+            ⊎ TouchesLanes self.old.topo b (D.lane_of disk.old) (D.lane_of disk.new) }
         ensures idle { (self.old.spent ≡ true) ⊎ IsSome (refused_at self.old (step.Crash b)) → disk.new ≡ disk.old }
         ensures lanes { LanesFit (D.lane_of disk.new) self.new }
     {

@@ -13,7 +13,8 @@ ghost use Rattle.gr_world.specs.Ran.{IsOpen, Ran};
 ghost use Rattle.gr_world.specs.Steps.{Makes, Does, Refuses, Spends, Stays, refused_at};
 ghost use Rattle.gr_world.specs.Stopped.{broken_in};
 ghost use Rattle.gr_world.specs.Disk.{StaysSound, IsClosed, IsBarred, IsBarredJoin, BarsWake, ReopensWhere};
-ghost use Rattle.gr_world.specs.Disk.{IsIdle, UsesDisk, LeavesOthers};
+ghost use Rattle.gr_world.specs.Disk.{IsIdle, UsesDisk};
+ghost use Rattle.gr_world.specs.Moments.{CallsLanes};
 ghost use Rattle.gr_world.specs.Ended.{IsEnd, WakeEnds, EndsAt};
 ghost use Rattle.gr_world.specs.Fits.{GoesOn};
 
@@ -56,7 +57,7 @@ impl World {
         ensures sound { StaysSound self.old self.new result }
         ensures disk { UsesDisk (D.faultless disk.old) (D.faultless disk.new) (D.faults disk.old)
             (D.stops disk.old) (D.faults disk.new) (D.stops disk.new) result }
-        ensures others { LeavesOthers self.old.topo (D.lane_of disk.old) (D.lane_of disk.new) }
+        ensures calls { CallsLanes self.old.topo (D.lane_of disk.old) (D.lane_of disk.new) }
         ensures idle { IsIdle self.old (step.Publish p number None event.now) → disk.new ≡ disk.old }
         ensures lanes { LanesFit (D.lane_of disk.new) self.new }
     {
@@ -98,7 +99,7 @@ impl World {
         ensures sound { StaysSound self.old self.new result }
         ensures disk { UsesDisk (D.faultless disk.old) (D.faultless disk.new) (D.faults disk.old)
             (D.stops disk.old) (D.faults disk.new) (D.stops disk.new) result }
-        ensures others { LeavesOthers self.old.topo (D.lane_of disk.old) (D.lane_of disk.new) }
+        ensures calls { CallsLanes self.old.topo (D.lane_of disk.old) (D.lane_of disk.new) }
         ensures idle { IsIdle self.old (step.Join s p) → disk.new ≡ disk.old }
         ensures lanes { LanesFit (D.lane_of disk.new) self.new }
     {
@@ -141,7 +142,7 @@ impl World {
         ensures sound { StaysSound self.old self.new result }
         ensures disk { UsesDisk (D.faultless disk.old) (D.faultless disk.new) (D.faults disk.old)
             (D.stops disk.old) (D.faults disk.new) (D.stops disk.new) result }
-        ensures others { LeavesOthers self.old.topo (D.lane_of disk.old) (D.lane_of disk.new) }
+        ensures calls { CallsLanes self.old.topo (D.lane_of disk.old) (D.lane_of disk.new) }
         ensures idle { IsIdle self.old (step.Wake b) → disk.new ≡ disk.old }
         ensures lanes { LanesFit (D.lane_of disk.new) self.new }
     {
@@ -169,7 +170,7 @@ impl World {
             (numbers (length self.old.topo.publishers)) self.old self.new }
         ensures disk { UsesDisk (D.faultless disk.old) (D.faultless disk.new)
             (D.faults disk.old) (D.stops disk.old) (D.faults disk.new) (D.stops disk.new) result }
-        ensures others { LeavesOthers self.old.topo (D.lane_of disk.old) (D.lane_of disk.new) }
+        ensures calls { CallsLanes self.old.topo (D.lane_of disk.old) (D.lane_of disk.new) }
         ensures lanes { LanesFit (D.lane_of disk.new) self.new }
     {
         let mut lines = Reports::new(self.alloc);

@@ -18,7 +18,9 @@ ghost use Rattle.gr_world.specs.Of.{IsWorld, LaneFits, IsReadable, LanesFit, IsS
 ghost use Rattle.gr_world.specs.Opened.{IsLeft};
 ghost use Rattle.gr_world.specs.Ran.{IsOpen, Ran};
 ghost use Rattle.gr_world.specs.Steps.{Makes, Refuses, Spends, Stays, Does, IsCarried, NotMemory, refused_at};
-ghost use Rattle.gr_world.specs.Disk.{Counts, StaysSound, IsClosed, IsBarred, IsIdle, UsesDisk, LeavesOthers};
+ghost use Rattle.gr_world.specs.Disk.{Counts, StaysSound, IsClosed, IsBarred, IsIdle, UsesDisk};
+ghost use Rattle.gr_world.specs.Starting.{TouchesLanes};
+ghost use Rattle.gr_world.specs.Moments.{CallsLanes, StopsLanes};
 ghost use Rattle.gr_world.specs.Fits.{GoesOn};
 ghost use Rattle.gr_world.specs.Stopped.{tick_in, is_broken_by, lines_in, broken_in, BreaksStopped, IsStoppedAt};
 ghost use Rattle.gr_world.specs.Stopped.{kept_line, stopped_over, StopsOver, StopRan, StopRestarts};
@@ -34,7 +36,7 @@ use gr_model::topologies::every_topology_is_a_tree;
 use gr_model::{Report, Reports};
 use gr_out::SimDisk;
 use gr_publog::Log;
-use gr_publog::law::stands_found;
+use gr_publog::law::{stands_found, stands_read};
 use gr_sched::Stop;
 use gr_tick::MAX_TICK;
 use std::alloc::Global;
@@ -146,7 +148,9 @@ impl World {
         ensures sound { NotMemory result → StaysSound self.old self.new result }
         ensures disk { UsesDisk (D.faultless disk.old) (D.faultless disk.new) (D.faults disk.old)
             (D.stops disk.old) (D.faults disk.new) (D.stops disk.new) result }
-        ensures others { LeavesOthers self.old.topo (D.lane_of disk.old) (D.lane_of disk.new) }
+        // The lanes are called as by a publish, and where it was stopped the host crashes and starts again behind that
+        ensures calls { let host = host_of self.old.topo p in
+            StopsLanes self.old.topo host (D.lane_of disk.old) (D.lane_of disk.new) }
         ensures idle { IsIdle self.old (step.Publish p number (Some stop.now) event.now) → disk.new ≡ disk.old }
         ensures lanes { LanesFit (D.lane_of disk.new) self.new }
     {
@@ -198,7 +202,7 @@ impl World {
         ensures carried { IsCarried result }
         ensures disk { UsesDisk (D.faultless disk.old) (D.faultless disk.new) (D.faults disk.old)
             (D.stops disk.old) (D.faults disk.new) (D.stops disk.new) result }
-        ensures others { LeavesOthers self.old.topo (D.lane_of disk.old) (D.lane_of disk.new) }
+        ensures calls { StopsLanes self.old.topo host (D.lane_of disk.old) (D.lane_of disk.new) }
         ensures lanes { result ≢ Err WorldFault.Memory → LanesFit (D.lane_of disk.new) self.new }
     {
         // Proof only: what a crash leaves of lanes in which a log stands stands for it.
@@ -247,6 +251,7 @@ impl World {
             (lanes_at (D.lane_of disk.new) (log_lane p)) }
         ensures never_through { (lines : List Report) → result ≢ Ok (Some lines) }
         ensures others { (n : ℕ) → AwayFrom (log_lane p) n → D.lane_of disk.new n ≡ D.lane_of disk.old n }
+        ensures calls { CallsLanes self.old.topo (D.lane_of disk.old) (D.lane_of disk.new) }
         ensures counts { let f = D.faults disk.old in let s = D.stops disk.old in
             Counts f s (D.faults disk.new) (D.stops disk.new) (lines_in result) }
         ensures faultless { StaysFaultless (D.faultless disk.old) (D.faultless disk.new)
@@ -254,8 +259,9 @@ impl World {
         ensures never_fails { D.faultless disk.old → result ≢ Err WorldFault.Disk }
         ensures lanes { result ≢ Ok None → LanesFit (D.lane_of disk.new) self.new }
     {
-        // Proof only: what is sent goes over edges, and each publisher has lanes.
+        // Proof only: frames go over edges, each publisher has lanes, and lanes in which a log stands read as it.
         every_topology_is_a_tree(&self.topology);
+        stands_read();
         let _ = self.topology.publishers();
         stop_both(disk, p, stop.call, stop.pick);
         let broker = &mut self.brokers[host as usize];
@@ -304,7 +310,7 @@ impl World {
         ensures faultless { StaysFaultless (D.faultless disk.old) (D.faultless disk.new)
             (D.faults disk.old) (D.faults disk.new) }
         ensures never_fails { D.faultless disk.old → result ≢ Err WorldFault.Disk }
-        ensures others { LeavesOthers self.old.topo (D.lane_of disk.old) (D.lane_of disk.new) }
+        ensures touches { TouchesLanes self.old.topo host (D.lane_of disk.old) (D.lane_of disk.new) }
         ensures lanes { result ≢ Err WorldFault.Memory → LanesFit (D.lane_of disk.new) self.new }
     {
         match self.restart(disk, host) {

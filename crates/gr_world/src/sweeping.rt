@@ -12,7 +12,7 @@ ghost use Rattle.gr_world.specs.Of.{IsWorld, LanesFit};
 ghost use Rattle.gr_world.specs.Steps.{Makes, Refuses, Spends, Stays, Does, refused_at};
 ghost use Rattle.gr_world.specs.Ran.{IsOpen, Ran};
 ghost use Rattle.gr_world.specs.Disk.{StaysSound, IsClosed, IsWakeBarred, HasBroken, ReopensWhere, IsIdle, UsesDisk};
-ghost use Rattle.gr_world.specs.Disk.{LeavesOthers};
+ghost use Rattle.gr_world.specs.Moments.{CallsLanes};
 ghost use Rattle.gr_world.specs.Ended.{IsEnd, WakeEnds, EndsAt, WakesEnd, PhasesEnd, SweepEnds};
 ghost use Rattle.gr_world.specs.Fits.{Fits, GoesOn, SettlesAll};
 ghost use Rattle.gr_world.specs.Sweeps.{AreBrokers, Delivers, HasHost, IsDue, at_moment, phases, swept};
@@ -106,7 +106,7 @@ impl World {
         ensures ends { IsEnd result → WakeEnds b p result self.old self.new }
         ensures disk { UsesDisk (D.faultless disk.old) (D.faultless disk.new) (D.faults disk.old)
             (D.stops disk.old) (D.faults disk.new) (D.stops disk.new) result }
-        ensures others { LeavesOthers self.old.topo (D.lane_of disk.old) (D.lane_of disk.new) }
+        ensures calls { CallsLanes self.old.topo (D.lane_of disk.old) (D.lane_of disk.new) }
         ensures lanes { LanesFit (D.lane_of disk.new) self.new }
     {
         let before = self.sent();
@@ -136,7 +136,7 @@ impl World {
         ensures ends { IsEnd result → WakesEnd (net_in self.old) p brokers.now result self.old self.new }
         ensures disk { UsesDisk (D.faultless disk.old) (D.faultless disk.new) (D.faults disk.old)
             (D.stops disk.old) (D.faults disk.new) (D.stops disk.new) result }
-        ensures others { LeavesOthers self.old.topo (D.lane_of disk.old) (D.lane_of disk.new) }
+        ensures calls { CallsLanes self.old.topo (D.lane_of disk.old) (D.lane_of disk.new) }
         ensures lanes { LanesFit (D.lane_of disk.new) self.new }
     {
         let mut lines = self.no_lines();
@@ -191,7 +191,7 @@ impl World {
         ensures ends { IsEnd result → PhasesEnd (net_in self.old) p inwards.now outwards.now result self.old self.new }
         ensures disk { UsesDisk (D.faultless disk.old) (D.faultless disk.new) (D.faults disk.old)
             (D.stops disk.old) (D.faults disk.new) (D.stops disk.new) result }
-        ensures others { LeavesOthers self.old.topo (D.lane_of disk.old) (D.lane_of disk.new) }
+        ensures calls { CallsLanes self.old.topo (D.lane_of disk.old) (D.lane_of disk.new) }
         ensures lanes { LanesFit (D.lane_of disk.new) self.new }
     {
         let first = self.sent();
@@ -220,7 +220,7 @@ impl World {
         ensures ends { IsEnd result → SweepEnds (net_in self.old) result p self.old self.new }
         ensures disk { UsesDisk (D.faultless disk.old) (D.faultless disk.new) (D.faults disk.old)
             (D.stops disk.old) (D.faults disk.new) (D.stops disk.new) result }
-        ensures others { LeavesOthers self.old.topo (D.lane_of disk.old) (D.lane_of disk.new) }
+        ensures calls { CallsLanes self.old.topo (D.lane_of disk.old) (D.lane_of disk.new) }
         ensures lanes { LanesFit (D.lane_of disk.new) self.new }
     {
         // Proof only: each broker is one of these.
@@ -249,7 +249,7 @@ impl World {
             → EndsAt (sweep_for net) (SweepEnds net result) (numbers net.publishers) self.old self.new }
         ensures disk { UsesDisk (D.faultless disk.old) (D.faultless disk.new) (D.faults disk.old)
             (D.stops disk.old) (D.faults disk.new) (D.stops disk.new) result }
-        ensures others { LeavesOthers self.old.topo (D.lane_of disk.old) (D.lane_of disk.new) }
+        ensures calls { CallsLanes self.old.topo (D.lane_of disk.old) (D.lane_of disk.new) }
         ensures lanes { LanesFit (D.lane_of disk.new) self.new }
     {
         let mut lines = self.no_lines();
@@ -275,7 +275,7 @@ impl World {
             → EndsAt (sweep_for net) (SweepEnds net result) (numbers net.publishers) self.old self.new }
         ensures disk { UsesDisk (D.faultless disk.old) (D.faultless disk.new) (D.faults disk.old)
             (D.stops disk.old) (D.faults disk.new) (D.stops disk.new) result }
-        ensures others { LeavesOthers self.old.topo (D.lane_of disk.old) (D.lane_of disk.new) }
+        ensures calls { CallsLanes self.old.topo (D.lane_of disk.old) (D.lane_of disk.new) }
         ensures lanes { LanesFit (D.lane_of disk.new) self.new }
     {
         let mut lines = match self.sweep_publishers(disk) {
@@ -325,7 +325,7 @@ impl World {
         ensures disk { UsesDisk (D.faultless disk.old) (D.faultless disk.new) (D.faults disk.old)
             (D.stops disk.old) (D.faults disk.new) (D.stops disk.new) result }
         ensures idle { IsIdle self.old step.Sweep → disk.new ≡ disk.old }
-        ensures others { LeavesOthers self.old.topo (D.lane_of disk.old) (D.lane_of disk.new) }
+        ensures calls { CallsLanes self.old.topo (D.lane_of disk.old) (D.lane_of disk.new) }
         ensures lanes { LanesFit (D.lane_of disk.new) self.new }
     {
         if self.spent {

@@ -1,4 +1,4 @@
-use Rattle.std.proofs.Common.{◌≡◌, true, false, Err, sym, ◌∙◌, subst}
+use Rattle.std.proofs.Common.{◌≡◌, inr, true, false, Err, sym, ◌∙◌, subst}
 use Rattle.gr_sched.specs.declared.step.Step.TheVariants as step
 use Rattle.gr_topo.specs.Topology.{subscribers_of, not_empty}
 use Rattle.gr_world.specs.declared.fault.WorldFault.TheVariants as fault
@@ -48,3 +48,6 @@ pub returns-clause-crashes : goal.returns-clause-crashes
 returns-clause-crashes g c =
     let one = c.crash_at-answer in
     noted_lines (Crashes c.args.b (g.D.Disk.lane_of c.args.disk.now) c.args.self.now) one.new.self c.noted.new.self one.result c.noted.result c.noted.ensures.answer c.noted.ensures.view one.ensures.crashes
+
+pub returns-clause-touches : goal.returns-clause-touches
+returns-clause-touches g c = inr c.crash_at-answer.ensures.touches

@@ -9,7 +9,7 @@ use Rattle.gr_world.specs.Ran.{Ran}
 use Rattle.gr_world.specs.Taking.{put_in}
 use Rattle.gr_world.proofs.Answers.{ran_on, reopen_follows}
 use Rattle.gr_world.proofs.Called.{Site, read_fits, read_stands, site_unstopped}
-use Rattle.gr_world.proofs.Late.{JoinsAt, does_join, ran_join, lanes_join, reopens_join, unchanged_join, failed_join}
+use Rattle.gr_world.proofs.Late.{JoinsAt, JoinsOn, does_join, ran_join, lanes_join, calls_join, reopens_join, unchanged_join, failed_join}
 use Rattle.gr_world.proofs.world.World.join_at_host.Given.{Over}
 use Rattle.gr_world.proofs.world.World.join_at_host.Goals as goal
 
@@ -44,18 +44,22 @@ ran g c =
     ran_join (the_view c.self.inside) c.args.self.now c.host-host.result c.args.p c.args.s c.index_mut-broker.result.now c.join-answer.new.self c.take_answer.new.frames
     c.join-answer.result c.take_answer.result (site g c) (sym c.host-host.ensures.host) c.every_topology_is_a_tree.ensures.tree c.requires.late (gives g c) c.take_answer.ensures.follows c.take_answer.ensures.takes
 
-lanes : (g : Over) (c : goal.After-take_answer g) → LanesFit (g.D.Disk.lane_of c.join-answer.new.disk) (put_in (the_view c.self.inside) c.host-host.result c.join-answer.new.self c.take_answer.new.frames)
-lanes g c =
+on_lanes : (g : Over) (c : goal.After-take_answer g) → JoinsOn c.index_mut-broker.result.now c.args.p c.args.s c.self.inside.clock c.join-answer.new.self (g.D.Disk.lane_of c.args.disk.now) (g.D.Disk.lane_of c.join-answer.new.disk) c.join-answer.result
+on_lanes g c =
     let e = c.join-answer.ensures in
-    lanes_join (the_view c.self.inside) c.args.self.now c.host-host.result c.args.p c.args.s c.index_mut-broker.result.now c.join-answer.new.self c.take_answer.new.frames
-    c.join-answer.result c.take_answer.result (site g c) (sym c.host-host.ensures.host) c.every_topology_is_a_tree.ensures.tree c.requires.late (gives g c) c.take_answer.ensures.follows c.take_answer.ensures.takes
-    (g.D.Disk.lane_of c.args.disk.now) (g.D.Disk.lane_of c.join-answer.new.disk) c.requires.lanes (record {
+    record {
       lane = e.lane g.met.D.SimDisk.told;
       idle = λ h n. ap (λ d. g.D.Disk.lane_of d n) (e.uses.idle (ap log_answer h));
       untouched = λ h n. ap (λ d. g.D.Disk.lane_of d n) (e.untouched h);
       others = e.uses.others g.met.D.SimDisk.told;
       stands = e.stands g.met.D.SimDisk.told;
-    })
+    }
+
+lanes : (g : Over) (c : goal.After-take_answer g) → LanesFit (g.D.Disk.lane_of c.join-answer.new.disk) (put_in (the_view c.self.inside) c.host-host.result c.join-answer.new.self c.take_answer.new.frames)
+lanes g c =
+    lanes_join (the_view c.self.inside) c.args.self.now c.host-host.result c.args.p c.args.s c.index_mut-broker.result.now c.join-answer.new.self c.take_answer.new.frames
+    c.join-answer.result c.take_answer.result (site g c) (sym c.host-host.ensures.host) c.every_topology_is_a_tree.ensures.tree c.requires.late (gives g c) c.take_answer.ensures.follows c.take_answer.ensures.takes
+    (g.D.Disk.lane_of c.args.disk.now) (g.D.Disk.lane_of c.join-answer.new.disk) c.requires.lanes (on_lanes g c)
 
 -- What the world answers and leaves
 
@@ -96,5 +100,9 @@ returns-clause-disk g c =
 pub returns-clause-lanes : goal.returns-clause-lanes
 returns-clause-lanes g c = lanes g c
 
-pub returns-clause-others : goal.returns-clause-others
-returns-clause-others g c = λ n h. c.join-answer.ensures.uses.others g.met.D.SimDisk.told n (h c.args.p c.requires.publisher)
+pub returns-clause-calls : goal.returns-clause-calls
+returns-clause-calls g c =
+    let told = g.met.D.SimDisk.told in
+    calls_join (the_view c.self.inside) c.args.self.now c.host-host.result c.args.p c.args.s c.index_mut-broker.result.now c.join-answer.new.self c.take_answer.new.frames
+    c.join-answer.result c.take_answer.result (site g c) (sym c.host-host.ensures.host) c.every_topology_is_a_tree.ensures.tree c.requires.late (gives g c) c.take_answer.ensures.follows c.take_answer.ensures.takes
+    c.stands_read.ensures (g.D.Disk.lane_of c.args.disk.now) (g.D.Disk.lane_of c.join-answer.new.disk) c.requires.lanes (on_lanes g c) (c.join-answer.ensures.uses.goes_on told)

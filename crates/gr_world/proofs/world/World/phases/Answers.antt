@@ -2,7 +2,8 @@ use Rattle.std.proofs.Common.{inl, Ok, Err, sym, ◌∙◌}
 use Rattle.std.proofs.lemmas.Bool.{false≢true}
 use Rattle.std.proofs.lemmas.List.{length-map}
 use Rattle.gr_world.specs.Seen.{frame_said, net_in}
-use Rattle.gr_world.proofs.Joining.{ran_joined, lanes_kept, brokers_kept, disk_joined, others_on}
+use Rattle.gr_world.proofs.Joining.{ran_joined, lanes_kept, brokers_kept, disk_joined}
+use Rattle.gr_world.proofs.ByCalls.{lanes_on}
 use Rattle.gr_world.proofs.Composed.{disk_lines}
 use Rattle.gr_world.proofs.Ending.{end_behind, ends_third, ends_wakes}
 use Rattle.gr_world.proofs.Onward.{phases_do}
@@ -55,11 +56,11 @@ returns-clause-ends g c = λ e.
 pub returns-clause-bars : goal.returns-clause-bars
 returns-clause-bars g c = λ d has. absurd (false≢true (c.in-Ok.ensures.bars d has))
 
-pub returns-clause-others : goal.returns-clause-others
-returns-clause-others g c =
+pub returns-clause-calls : goal.returns-clause-calls
+returns-clause-calls g c =
     let x = c.in-Ok.ensures in
-    others_on c.args.self.now.topo c.hand_brokers-told.new.self.topo (g.D.Disk.lane_of c.args.disk.now) (g.D.Disk.lane_of c.wake_brokers.new.disk) (g.D.Disk.lane_of c.wake_brokers-told.new.disk)
-    (c.hand_brokers-told.ensures.ran.keeps.topo ∙ x.ran.keeps.topo) x.others c.wake_brokers-told.ensures.others
+    lanes_on c.args.self.now.topo c.hand_brokers-told.new.self.topo (g.D.Disk.lane_of c.args.disk.now) (g.D.Disk.lane_of c.wake_brokers.new.disk) (g.D.Disk.lane_of c.wake_brokers-told.new.disk)
+    (c.hand_brokers-told.ensures.ran.keeps.topo ∙ x.ran.keeps.topo) x.calls c.wake_brokers-told.ensures.calls
 
 pub returns-clause-disk : goal.returns-clause-disk
 returns-clause-disk g c =

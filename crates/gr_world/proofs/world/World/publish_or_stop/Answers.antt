@@ -1,4 +1,4 @@
-use Rattle.std.proofs.Common.{◌≡◌, ◌<◌, inl, inr, List, length, Result, Ok, Err, None, refl, sym, ap, ◌∙◌, subst, arith}
+use Rattle.std.proofs.Common.{◌≡◌, inl, inr, List, Result, Ok, Err, None, refl, sym, ap, ◌∙◌, subst, arith}
 use Rattle.gr_model.specs.declared.report.Report.{Report}
 use Rattle.gr_world.specs.declared.fault.WorldFault.{WorldFault}
 use Rattle.gr_world.specs.declared.fault.WorldFault.TheVariants as fault
@@ -6,8 +6,10 @@ use Rattle.gr_world.specs.Seen.{WorldView, net_in, world_of}
 use Rattle.gr_world.specs.Opened.{with_down}
 use Rattle.std.specs.Prelude.{IfOk}
 use Rattle.gr_model.specs.Broker.{Log}
+use Rattle.gr_world.specs.Starting.{TouchesLanes}
 use Rattle.gr_world.specs.Stopped.{StopRestarts, StopsOver, tick_in, lines_in, broken_in}
 use Rattle.std.specs.Prelude.{IsErrOf}
+use Rattle.gr_world.proofs.ByCalls.{stops_none}
 use Rattle.gr_world.proofs.Composed.{either_sooner}
 use Rattle.gr_world.proofs.StoppedWorlds.{log_there, idle_does, none_at, some_at, fits_mid, readable_mid, stopped_mid, stops_mid, one_tick, no_tick, ran_started}
 use Rattle.gr_world.proofs.world.World.publish_or_stop.Goals as goal
@@ -77,19 +79,26 @@ returns-in-Ok-None-clause-failed g c = λ e.
     let none : c.publish_to_stop.result ≡ Ok None = c.in-Ok-None.is ∙ ap (λ o. Ok o) c.in-Ok-None.field-0-is in
     inr (c.start_stopped.ensures.ran.failed e ∙ ap (λ (m : WorldView). with_down m c.args.host) (c.publish_to_stop.ensures.broken none))
 
--- no lane is touched but those of the publishers
+-- the lanes go on by the calls of the publish, and behind a stop the host has crashed
 
-pub returns-in-Ok-None-clause-others : goal.returns-in-Ok-None-clause-others
-returns-in-Ok-None-clause-others g c = λ n h.
+pub returns-in_default-clause-calls : goal.returns-in_default-clause-calls
+returns-in_default-clause-calls g c = stops_none c.args.self.now.topo c.args.host (g.D.Disk.lane_of c.args.disk.now) (g.D.Disk.lane_of c.publish_at_host.new.disk) c.publish_at_host.ensures.calls
+
+pub returns-in-Ok-None-clause-calls : goal.returns-in-Ok-None-clause-calls
+returns-in-Ok-None-clause-calls g c =
     let none : c.publish_to_stop.result ≡ Ok None = c.in-Ok-None.is ∙ ap (λ o. Ok o) c.in-Ok-None.field-0-is in
-    let is = c.publish_to_stop.ensures.broken none in
-    c.start_stopped.ensures.others n (λ q j. h q (subst (λ (m : WorldView). q < length m.topo.publishers) is j)) ∙ c.publish_to_stop.ensures.others n (h c.args.p c.requires.publisher)
+    let between = g.D.Disk.lane_of c.publish_to_stop.new.disk in
+    record {
+      between = between;
+      calls = c.publish_to_stop.ensures.calls;
+      crash = inr (subst (λ (m : WorldView). TouchesLanes m.topo c.args.host between (g.D.Disk.lane_of c.start_stopped.new.disk)) (c.publish_to_stop.ensures.broken none) c.start_stopped.ensures.touches);
+    }
 
-pub returns-in-Ok-Some-clause-others : goal.returns-in-Ok-Some-clause-others
-returns-in-Ok-Some-clause-others g c = λ n h. c.publish_to_stop.ensures.others n (h c.args.p c.requires.publisher)
+pub returns-in-Ok-Some-clause-calls : goal.returns-in-Ok-Some-clause-calls
+returns-in-Ok-Some-clause-calls g c = stops_none c.args.self.now.topo c.args.host (g.D.Disk.lane_of c.args.disk.now) (g.D.Disk.lane_of c.publish_to_stop.new.disk) c.publish_to_stop.ensures.calls
 
-pub returns-in-Err-clause-others : goal.returns-in-Err-clause-others
-returns-in-Err-clause-others g c = λ n h. c.publish_to_stop.ensures.others n (h c.args.p c.requires.publisher)
+pub returns-in-Err-clause-calls : goal.returns-in-Err-clause-calls
+returns-in-Err-clause-calls g c = stops_none c.args.self.now.topo c.args.host (g.D.Disk.lane_of c.args.disk.now) (g.D.Disk.lane_of c.publish_to_stop.new.disk) c.publish_to_stop.ensures.calls
 
 -- what was stopped, and what was not
 

@@ -7,7 +7,9 @@ use Rattle.gr_world.specs.declared.fault.WorldFault.TheVariants as fault
 use Rattle.gr_world.specs.Seen.{WorldView, net_in, world_of}
 use Rattle.gr_world.specs.Of.{IsWorld, LanesFit}
 use Rattle.gr_world.specs.Steps.{Makes}
+use Rattle.gr_world.specs.Moments.{StopsLanes}
 use Rattle.gr_world.specs.Stopped.{BreaksStopped, StopsOver}
+use Rattle.gr_world.proofs.ByCalls.{lanes_none, stops_none}
 use Rattle.gr_world.proofs.Leaving.{noted_failed, noted_closed}
 use Rattle.gr_world.proofs.StoppedWorlds.{noted_fits, noted_lanes, noted_does, refused_makes, stopped_makes}
 use Rattle.gr_world.proofs.Crashing.{noted_lines}
@@ -73,3 +75,25 @@ returns-clause-passes g c = λ none.
     let one = c.publish_or_stop-answer in
     let w = c.args.self.now in
     noted_does (publish_now (net_in w) (world_of w) c.args.p c.args.number c.args.event.now) one.new.self c.noted.new.self one.result c.noted.result c.noted.ensures.answer c.noted.ensures.view (one.ensures.passes none)
+
+-- the lanes
+
+pub returns-then-self-clause-calls : goal.returns-then-self-clause-calls
+returns-then-self-clause-calls g c =
+    let lanes = g.D.Disk.lane_of c.args.disk.now in
+    stops_none c.args.self.now.topo (host_of c.args.self.now.topo c.args.p) lanes lanes (lanes_none c.args.self.now.topo lanes)
+
+pub returns-then-hosts_subscriber-clause-calls : goal.returns-then-hosts_subscriber-clause-calls
+returns-then-hosts_subscriber-clause-calls g c =
+    let lanes = g.D.Disk.lane_of c.args.disk.now in
+    stops_none c.args.self.now.topo (host_of c.args.self.now.topo c.args.p) lanes lanes (lanes_none c.args.self.now.topo lanes)
+
+pub returns-then-is_some-clause-calls : goal.returns-then-is_some-clause-calls
+returns-then-is_some-clause-calls g c =
+    let lanes = g.D.Disk.lane_of c.args.disk.now in
+    stops_none c.args.self.now.topo (host_of c.args.self.now.topo c.args.p) lanes lanes (lanes_none c.args.self.now.topo lanes)
+
+pub returns-clause-calls : goal.returns-clause-calls
+returns-clause-calls g c =
+    let host : c.host-host.result ≡ host_of c.args.self.now.topo c.args.p = c.host-host.ensures.host ∙ ap (λ (v : WorldView). host_of v.topo c.args.p) c.self.view_is in
+    subst (λ b. StopsLanes c.args.self.now.topo b (g.D.Disk.lane_of c.args.disk.now) (g.D.Disk.lane_of c.publish_or_stop-answer.new.disk)) host c.publish_or_stop-answer.ensures.calls

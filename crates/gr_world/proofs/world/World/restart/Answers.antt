@@ -6,6 +6,7 @@ use Rattle.gr_broker.specs.Lanes.{log_lane}
 use Rattle.gr_world.specs.Seen.{WorldView, net_in, world_of, log_at}
 use Rattle.gr_world.specs.Of.{IsWorld, LaneFits, IsReadable}
 use Rattle.gr_world.specs.Opened.{IsLeft, restart_over}
+use Rattle.gr_world.specs.Starting.{TouchesLanes}
 use Rattle.gr_world.specs.Steps.{Does}
 use Rattle.gr_world.specs.contracts.world.World.{the_view}
 use Rattle.gr_world.proofs.Answering.{err_is, start_faults, start_failed}
@@ -77,8 +78,10 @@ returns-in-Err-clause-lanes g c = λ some.
     c.world_fault.ensures (λ h. some (ap (λ x. Err x) h)) c.down_after-self-inside.ensures.failed in
     failed_lanes (the_view c.self.inside) b c.start_again.new.brokers.items c.down_after-self-inside.result before (g.D.Disk.lane_of c.start_again.new.disk) c.in-Err.ensures.kept down c.in-Err.ensures.touches readable others
 
-pub returns-in-Ok-clause-others : goal.returns-in-Ok-clause-others
-returns-in-Ok-clause-others g c = λ n h. c.in-Ok.ensures.touches.others n (λ p j at. h p (subst (λ (x : WorldView). p < length x.topo.publishers) c.self.view_is j))
+pub returns-in-Ok-clause-touches : goal.returns-in-Ok-clause-touches
+returns-in-Ok-clause-touches g c =
+    subst (λ (x : WorldView). TouchesLanes x.topo c.args.b (g.D.Disk.lane_of c.args.disk.now) (g.D.Disk.lane_of c.start_again.new.disk)) c.self.view_is c.in-Ok.ensures.touches
 
-pub returns-in-Err-clause-others : goal.returns-in-Err-clause-others
-returns-in-Err-clause-others g c = λ n h. c.in-Err.ensures.touches.others n (λ p j at. h p (subst (λ (x : WorldView). p < length x.topo.publishers) c.self.view_is j))
+pub returns-in-Err-clause-touches : goal.returns-in-Err-clause-touches
+returns-in-Err-clause-touches g c =
+    subst (λ (x : WorldView). TouchesLanes x.topo c.args.b (g.D.Disk.lane_of c.args.disk.now) (g.D.Disk.lane_of c.start_again.new.disk)) c.self.view_is c.in-Err.ensures.touches

@@ -1,4 +1,4 @@
-use Rattle.std.proofs.Common.{◌≡◌, ◌<◌, List, length, Result, Err, sym, ap, ◌∙◌, subst, arith}
+use Rattle.std.proofs.Common.{◌≡◌, List, length, Result, Err, sym, ap, ◌∙◌, subst, arith}
 use Rattle.std.specs.Prelude.{is_some}
 use Rattle.gr_model.specs.declared.report.Report.{Report}
 use Rattle.gr_model.specs.Net.{numbers}
@@ -9,6 +9,7 @@ use Rattle.gr_world.specs.declared.fault.WorldFault.{WorldFault}
 use Rattle.gr_world.specs.declared.fault.WorldFault.TheVariants as fault
 use Rattle.gr_world.specs.Seen.{WorldView, log_at, net_in, world_of}
 use Rattle.gr_world.specs.Sweeps.{at_moment}
+use Rattle.gr_world.specs.Moments.{CallsLanes}
 use Rattle.gr_world.specs.Ended.{EndsAt, SweepEnds}
 use Rattle.gr_world.proofs.Barring.{sweep_reopens, none_there}
 use Rattle.gr_world.proofs.Ending.{noted_end}
@@ -16,6 +17,7 @@ use Rattle.gr_world.proofs.Swept.{noted_fits, noted_lanes, noted_sound, moved_la
 use Rattle.gr_sched.specs.declared.step.Step.TheVariants as step
 use Rattle.gr_world.specs.Of.{IsSound}
 use Rattle.gr_world.proofs.Fitted.{goes_on_noted, goes_on_same, settles_within}
+use Rattle.gr_world.proofs.ByCalls.{lanes_none}
 use Rattle.gr_world.proofs.world.World.sweep.Goals as goal
 
 pub returns-then-moment-gt-MAX_TICK-clause-makes :
@@ -75,6 +77,17 @@ pub returns-clause-settles : goal.returns-clause-settles
 returns-clause-settles g c =
     settles_within c.args.self.now c.noted.new.self (g.D.Disk.lane_of c.args.disk.now) c.noted.result c.sweep_moment-moment.result c.sweep_moment-moment.ensures (omega (arith, c.if-moment-gt-MAX_TICK.false)) (returns-clause-makes g c)
 
-pub returns-clause-others : goal.returns-clause-others
-returns-clause-others g c = λ n h.
-    c.sweep_all-answer.ensures.others n (λ p i. h p (subst (λ (w : WorldView). p < length w.topo.publishers) c.move_clock.ensures i))
+pub returns-clause-calls : goal.returns-clause-calls
+returns-clause-calls g c =
+    subst (λ (w : WorldView). CallsLanes w.topo (g.D.Disk.lane_of c.args.disk.now) (g.D.Disk.lane_of c.sweep_all-answer.new.disk)) c.move_clock.ensures c.sweep_all-answer.ensures.calls
+
+-- a call that does not come to the disk
+
+pub returns-then-self-clause-calls : goal.returns-then-self-clause-calls
+returns-then-self-clause-calls g c = lanes_none c.args.self.now.topo (g.D.Disk.lane_of c.args.disk.now)
+
+pub returns-then-moment-gt-MAX_TICK-clause-calls : goal.returns-then-moment-gt-MAX_TICK-clause-calls
+returns-then-moment-gt-MAX_TICK-clause-calls g c = lanes_none c.args.self.now.topo (g.D.Disk.lane_of c.args.disk.now)
+
+pub returns-then-is_some-clause-calls : goal.returns-then-is_some-clause-calls
+returns-then-is_some-clause-calls g c = lanes_none c.args.self.now.topo (g.D.Disk.lane_of c.args.disk.now)

@@ -7,7 +7,8 @@ use Rattle.gr_world.specs.Seen.{net_in, world_of}
 use Rattle.gr_report.proofs.Along.{numbers_left}
 use Rattle.gr_world.specs.Ended.{SweepEnds}
 use Rattle.gr_world.proofs.Composed.{ran_none, disk_none, leads_first}
-use Rattle.gr_world.proofs.Joining.{ran_joined, disk_joined, does_same, others_none, others_on}
+use Rattle.gr_world.proofs.Joining.{ran_joined, disk_joined, does_same}
+use Rattle.gr_world.proofs.ByCalls.{lanes_none, lanes_on}
 use Rattle.gr_world.proofs.Onward.{leads_joined}
 use Rattle.gr_world.proofs.Barring.{due_next}
 use Rattle.gr_world.proofs.Ending.{so_far_none, so_far_next, ends_at, number_next, number_here, ends_sweeps}
@@ -23,7 +24,7 @@ publishers-init g c =
       leads = leads_first (sweep_for (net_in a)) (length a.topo.publishers) a c.no_lines-lines.result c.no_lines-lines.ensures;
       none = λ q h lt d. absurd (omega (arith, h));
       done = so_far_none (sweep_for (net_in a)) a;
-      others = others_none a.topo (g.D.Disk.lane_of c.args.disk.now);
+      calls = lanes_none a.topo (g.D.Disk.lane_of c.args.disk.now);
     }
 
 pub publishers-preserved : goal.publishers-preserved
@@ -49,7 +50,7 @@ publishers-preserved g c =
           (numbers_left p n here) c.in-Ok.ensures sofar.leads does;
       none = due_next a b p c.publishers.lines c.in-Ok.all told c.in-Ok.ensures sofar.ran c.sweep_for-told.ensures.bars sofar.none;
       done = so_far_next (sweep_for (net_in a)) (numbers_from 0 p) (numbers_from 0 (p + 1)) p a b new c.publishers.lines c.in-Ok.all told (number_next p) c.in-Ok.ensures sofar.done does;
-      others = others_on a.topo b.topo (g.D.Disk.lane_of x) (g.D.Disk.lane_of y) (g.D.Disk.lane_of z) sofar.ran.keeps.topo sofar.others c.sweep_for-told.ensures.others;
+      calls = lanes_on a.topo b.topo (g.D.Disk.lane_of x) (g.D.Disk.lane_of y) (g.D.Disk.lane_of z) sofar.ran.keeps.topo sofar.calls c.sweep_for-told.ensures.calls;
     }
 
 pub returns-in-Err-clause-ran : goal.returns-in-Err-clause-ran
@@ -68,10 +69,10 @@ returns-in-Err-clause-ends g c = λ e.
     (subst (λ (t : TopologyView). SweepEnds (net_of t) (Err c.in-Err.fault) p c.publishers.self c.sweep_for-told.new.self) sofar.ran.keeps.topo
     (ends_sweeps (net_in c.publishers.self) p c.publishers.self c.sweep_for-told.new.self c.publishers.lines c.sweep_for-told.result (Err c.in-Err.fault) c.in-Err.ensures c.sweep_for-told.ensures.ends e))
 
-pub returns-in-Err-clause-others : goal.returns-in-Err-clause-others
-returns-in-Err-clause-others g c =
+pub returns-in-Err-clause-calls : goal.returns-in-Err-clause-calls
+returns-in-Err-clause-calls g c =
     let sofar = c.publishers.invariant in
-    others_on c.args.self.now.topo c.publishers.self.topo (g.D.Disk.lane_of c.args.disk.now) (g.D.Disk.lane_of c.publishers.disk) (g.D.Disk.lane_of c.sweep_for-told.new.disk) sofar.ran.keeps.topo sofar.others c.sweep_for-told.ensures.others
+    lanes_on c.args.self.now.topo c.publishers.self.topo (g.D.Disk.lane_of c.args.disk.now) (g.D.Disk.lane_of c.publishers.disk) (g.D.Disk.lane_of c.sweep_for-told.new.disk) sofar.ran.keeps.topo sofar.calls c.sweep_for-told.ensures.calls
 
 pub returns-clause-bars : goal.returns-clause-bars
 returns-clause-bars g c = λ q lt d. absurd (c.publishers.invariant.none q (omega (arith, lt, c.publishers-test.false, c.publisher_count-p-end.ensures)) lt d)

@@ -4,7 +4,8 @@ use Rattle.gr_model.specs.World.{sweep_for, in_turn}
 use Rattle.gr_world.specs.Seen.{net_in, world_of}
 use Rattle.gr_world.specs.Of.{LanesFit}
 use Rattle.gr_world.specs.Ran.{Ran}
-use Rattle.gr_world.specs.Disk.{UsesDisk, LeavesOthers}
+use Rattle.gr_world.specs.Disk.{UsesDisk}
+use Rattle.gr_world.specs.Moments.{CallsLanes}
 use Rattle.gr_world.specs.Sweeps.{IsDue}
 use Rattle.gr_world.proofs.Composed.{Leads}
 use Rattle.gr_world.proofs.Ending.{SoFar}
@@ -19,5 +20,5 @@ invariant-publishers g l = record {
   leads : Leads (sweep_for (net_in l.initial.self)) (numbers_from l.p (length l.initial.self.topo.publishers - l.p)) l.self l.lines (in_turn (sweep_for (net_in l.initial.self)) (numbers (length l.initial.self.topo.publishers)) (world_of l.initial.self));
   none : (q : ℕ) → q < l.p → q < length l.initial.self.topo.publishers → IsDue l.initial.self q → ⊥;
   done : SoFar (sweep_for (net_in l.initial.self)) (numbers_from 0 l.p) l.initial.self l.self;
-  others : LeavesOthers l.initial.self.topo (g.D.Disk.lane_of l.initial.disk) (g.D.Disk.lane_of l.disk);
+  calls : CallsLanes l.initial.self.topo (g.D.Disk.lane_of l.initial.disk) (g.D.Disk.lane_of l.disk);
 }

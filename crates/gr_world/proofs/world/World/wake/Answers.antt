@@ -13,6 +13,7 @@ use Rattle.gr_world.proofs.Ending.{noted_end}
 use Rattle.gr_world.proofs.Leaving.{makes_of, fits_noted, lanes_noted}
 use Rattle.gr_world.proofs.Stepping.{next_wake}
 use Rattle.gr_world.proofs.Fitted.{goes_on_noted}
+use Rattle.gr_world.proofs.ByCalls.{lanes_none}
 use Rattle.gr_world.proofs.world.World.wake.Goals as goal
 
 pub returns-clause-makes : goal.returns-clause-makes
@@ -50,3 +51,11 @@ returns-clause-goes_on g c =
     let one = c.wake_each-answer in
     goes_on_noted (step.Wake c.args.b) (g.D.Disk.lane_of c.args.disk.now) (g.D.Disk.lane_of one.new.disk) c.args.self.now one.new.self c.noted.new.self one.result c.noted.result c.noted.ensures.answer c.noted.ensures.view
     c.requires.broker (λ h. returns-clause-makes g c) one.ensures.ran.keeps.topo (λ h. one.ensures.ran.keeps.spent ∙ h) one.ensures.ran.fits (λ m d h. one.ensures.ran.sound.sound h d) (λ m. one.ensures.lanes)
+
+-- a call that does not come to the disk
+
+pub returns-then-self-clause-calls : goal.returns-then-self-clause-calls
+returns-then-self-clause-calls g c = lanes_none c.args.self.now.topo (g.D.Disk.lane_of c.args.disk.now)
+
+pub returns-then-is_some-clause-calls : goal.returns-then-is_some-clause-calls
+returns-then-is_some-clause-calls g c = lanes_none c.args.self.now.topo (g.D.Disk.lane_of c.args.disk.now)

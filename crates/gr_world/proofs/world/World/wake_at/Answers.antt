@@ -10,7 +10,7 @@ use Rattle.gr_world.specs.Ran.{Ran}
 use Rattle.gr_world.specs.Taking.{put_in}
 use Rattle.gr_world.proofs.Answers.{ran_on}
 use Rattle.gr_world.proofs.Called.{Site, read_stands, site_unstopped}
-use Rattle.gr_world.proofs.Woken.{Wakes, does_wake, ran_wake, lanes_wake, reopens_wake, ends_wake, apart_wake}
+use Rattle.gr_world.proofs.Woken.{Wakes, WakesOn, does_wake, ran_wake, lanes_wake, calls_wake, reopens_wake, ends_wake, apart_wake}
 use Rattle.gr_world.proofs.world.World.wake_at.Given.{Over}
 use Rattle.gr_world.proofs.world.World.wake_at.Goals as goal
 
@@ -45,18 +45,22 @@ ran g c =
 closed : (g : Over) (c : goal.After-take_answer g) → is_broken (log_in c.index_mut-broker.result.now c.args.p) ≡ true → c.wake-answer.new.disk ≡ c.args.disk.now
 closed g c = c.wake-answer.ensures.closed
 
-lanes : (g : Over) (c : goal.After-take_answer g) → LanesFit (g.D.Disk.lane_of c.wake-answer.new.disk) (put_in (the_view c.self.inside) c.args.b c.wake-answer.new.self c.take_answer.new.frames)
-lanes g c =
+on_lanes : (g : Over) (c : goal.After-take_answer g) → WakesOn c.self.inside.topology c.index_mut-broker.result.now c.args.p c.self.inside.clock c.wake-answer.new.self (g.D.Disk.lane_of c.args.disk.now) (g.D.Disk.lane_of c.wake-answer.new.disk) c.wake-answer.result
+on_lanes g c =
     let e = c.wake-answer.ensures in
-    lanes_wake (the_view c.self.inside) c.args.self.now c.args.b c.args.p c.index_mut-broker.result.now c.wake-answer.new.self c.take_answer.new.frames
-    c.wake-answer.result c.take_answer.result (site g c) c.every_topology_is_a_tree.ensures.tree (gives g c) c.take_answer.ensures.follows c.take_answer.ensures.takes
-    (g.D.Disk.lane_of c.args.disk.now) (g.D.Disk.lane_of c.wake-answer.new.disk) c.requires.lanes (record {
+    record {
       lane = e.lane g.met.D.SimDisk.told;
       below = λ h n. ap (λ d. g.D.Disk.lane_of d n) (e.below h);
       broken = λ h n. ap (λ d. g.D.Disk.lane_of d n) (closed g c h);
       others = e.uses.others g.met.D.SimDisk.told;
       stands = e.stands g.met.D.SimDisk.told;
-    })
+    }
+
+lanes : (g : Over) (c : goal.After-take_answer g) → LanesFit (g.D.Disk.lane_of c.wake-answer.new.disk) (put_in (the_view c.self.inside) c.args.b c.wake-answer.new.self c.take_answer.new.frames)
+lanes g c =
+    lanes_wake (the_view c.self.inside) c.args.self.now c.args.b c.args.p c.index_mut-broker.result.now c.wake-answer.new.self c.take_answer.new.frames
+    c.wake-answer.result c.take_answer.result (site g c) c.every_topology_is_a_tree.ensures.tree (gives g c) c.take_answer.ensures.follows c.take_answer.ensures.takes
+    (g.D.Disk.lane_of c.args.disk.now) (g.D.Disk.lane_of c.wake-answer.new.disk) c.requires.lanes (on_lanes g c)
 
 -- What the world answers and leaves
 
@@ -95,5 +99,9 @@ returns-clause-apart g c =
     apart_wake (the_view c.self.inside) c.args.self.now c.args.b c.args.p c.index_mut-broker.result.now c.wake-answer.new.self c.take_answer.new.frames
     c.wake-answer.result c.take_answer.result (site g c) c.every_topology_is_a_tree.ensures.tree (gives g c) c.take_answer.ensures.follows c.take_answer.ensures.takes
 
-pub returns-clause-others : goal.returns-clause-others
-returns-clause-others g c = λ n h. c.wake-answer.ensures.uses.others g.met.D.SimDisk.told n (h c.args.p c.requires.publisher)
+pub returns-clause-calls : goal.returns-clause-calls
+returns-clause-calls g c =
+    let told = g.met.D.SimDisk.told in
+    calls_wake (the_view c.self.inside) c.args.self.now c.args.b c.args.p c.index_mut-broker.result.now c.wake-answer.new.self c.take_answer.new.frames
+    c.wake-answer.result c.take_answer.result (site g c) c.every_topology_is_a_tree.ensures.tree (gives g c) c.take_answer.ensures.follows c.take_answer.ensures.takes
+    c.stands_read.ensures (g.D.Disk.lane_of c.args.disk.now) (g.D.Disk.lane_of c.wake-answer.new.disk) c.requires.lanes (on_lanes g c) (c.wake-answer.ensures.uses.goes_on told)

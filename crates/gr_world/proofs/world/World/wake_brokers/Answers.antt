@@ -3,7 +3,8 @@ use Rattle.gr_model.specs.World.{wake_up, in_turn}
 use Rattle.gr_world.specs.Seen.{net_in, world_of}
 use Rattle.gr_world.specs.Ended.{WakeEnds}
 use Rattle.gr_world.proofs.Composed.{ran_none, disk_none}
-use Rattle.gr_world.proofs.Joining.{ran_joined, disk_joined, does_same, others_none, others_on}
+use Rattle.gr_world.proofs.Joining.{ran_joined, disk_joined, does_same}
+use Rattle.gr_world.proofs.ByCalls.{lanes_none, lanes_on}
 use Rattle.gr_world.proofs.Onward.{leads_all, leads_joined, places_left}
 use Rattle.gr_world.proofs.Barring.{host_left, host_passed}
 use Rattle.gr_world.proofs.Ending.{so_far_none, so_far_next, ends_at, place_next, place_here, ends_wake_up}
@@ -20,7 +21,7 @@ brokers-init g c =
       leads = leads_all (wake_up (net_in a) c.args.p) bs bs a c.no_lines-lines.result (in_turn (wake_up (net_in a) c.args.p) bs (world_of a)) c.no_lines-lines.ensures refl refl;
       due = λ d has. has;
       done = so_far_none (wake_up (net_in a) c.args.p) a;
-      others = others_none a.topo (g.D.Disk.lane_of c.args.disk.now);
+      calls = lanes_none a.topo (g.D.Disk.lane_of c.args.disk.now);
     }
 
 pub brokers-preserved : goal.brokers-preserved
@@ -46,7 +47,7 @@ brokers-preserved g c =
       leads = leads_joined f (get_or bs i 0) (drop (i + 1) bs) (drop i bs) b new c.brokers.lines c.in-Ok.all told (in_turn f bs (world_of a)) (places_left bs i here) c.in-Ok.ensures sofar.leads does;
       due = λ d has. host_left a b c.args.p (get_or bs i 0) (drop i bs) (drop (i + 1) bs) c.brokers.lines c.in-Ok.all told c.requires.publisher (places_left bs i here) c.in-Ok.ensures sofar.ran c.wake_up-told.ensures.bars d (sofar.due d has);
       done = so_far_next f (take i bs) (take (i + 1) bs) (get_or bs i 0) a b new c.brokers.lines c.in-Ok.all told (place_next bs i here) c.in-Ok.ensures sofar.done does;
-      others = others_on a.topo b.topo (g.D.Disk.lane_of x) (g.D.Disk.lane_of y) (g.D.Disk.lane_of z) sofar.ran.keeps.topo sofar.others c.wake_up-told.ensures.others;
+      calls = lanes_on a.topo b.topo (g.D.Disk.lane_of x) (g.D.Disk.lane_of y) (g.D.Disk.lane_of z) sofar.ran.keeps.topo sofar.calls c.wake_up-told.ensures.calls;
     }
 
 pub returns-in-Err-clause-ran : goal.returns-in-Err-clause-ran
@@ -64,10 +65,10 @@ returns-in-Err-clause-ends g c = λ e.
     (place_here bs i here) sofar.ran.keeps sofar.done
     (ends_wake_up (get_or bs i 0) c.args.p c.brokers.self c.wake_up-told.new.self c.brokers.lines c.wake_up-told.result (Err c.in-Err.fault) c.in-Err.ensures c.wake_up-told.ensures.ends e)
 
-pub returns-in-Err-clause-others : goal.returns-in-Err-clause-others
-returns-in-Err-clause-others g c =
+pub returns-in-Err-clause-calls : goal.returns-in-Err-clause-calls
+returns-in-Err-clause-calls g c =
     let sofar = c.brokers.invariant in
-    others_on c.args.self.now.topo c.brokers.self.topo (g.D.Disk.lane_of c.args.disk.now) (g.D.Disk.lane_of c.brokers.disk) (g.D.Disk.lane_of c.wake_up-told.new.disk) sofar.ran.keeps.topo sofar.others c.wake_up-told.ensures.others
+    lanes_on c.args.self.now.topo c.brokers.self.topo (g.D.Disk.lane_of c.args.disk.now) (g.D.Disk.lane_of c.brokers.disk) (g.D.Disk.lane_of c.wake_up-told.new.disk) sofar.ran.keeps.topo sofar.calls c.wake_up-told.ensures.calls
 
 pub returns-clause-bars : goal.returns-clause-bars
 returns-clause-bars g c = λ d has.

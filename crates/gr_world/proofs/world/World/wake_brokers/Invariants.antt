@@ -3,7 +3,8 @@ use Rattle.gr_model.specs.World.{wake_up, in_turn}
 use Rattle.gr_world.specs.Seen.{net_in, world_of}
 use Rattle.gr_world.specs.Of.{LanesFit}
 use Rattle.gr_world.specs.Ran.{Ran}
-use Rattle.gr_world.specs.Disk.{UsesDisk, LeavesOthers}
+use Rattle.gr_world.specs.Disk.{UsesDisk}
+use Rattle.gr_world.specs.Moments.{CallsLanes}
 use Rattle.gr_world.specs.Sweeps.{HasHost, IsDue}
 use Rattle.gr_world.proofs.Composed.{Leads}
 use Rattle.gr_world.proofs.Ending.{SoFar}
@@ -18,5 +19,5 @@ invariant-brokers g l = record {
   leads : Leads (wake_up (net_in l.initial.self) l.p) (drop l.b-index l.brokers) l.self l.lines (in_turn (wake_up (net_in l.initial.self) l.p) l.brokers (world_of l.initial.self));
   due : IsDue l.initial.self l.p → HasHost l.initial.self l.p l.brokers → HasHost l.initial.self l.p (drop l.b-index l.brokers);
   done : SoFar (wake_up (net_in l.initial.self) l.p) (take l.b-index l.brokers) l.initial.self l.self;
-  others : LeavesOthers l.initial.self.topo (g.D.Disk.lane_of l.initial.disk) (g.D.Disk.lane_of l.disk);
+  calls : CallsLanes l.initial.self.topo (g.D.Disk.lane_of l.initial.disk) (g.D.Disk.lane_of l.disk);
 }

@@ -8,7 +8,7 @@ use Rattle.gr_world.specs.Disk.{BarsWake}
 use Rattle.gr_world.specs.Ended.{WakeEnds}
 use Rattle.gr_world.proofs.Barring.{as_before, as_before_next, none_next, none_barred, fault_barred, reopens_never}
 use Rattle.gr_world.proofs.Ending.{so_far_none, so_far_next, ends_at, number_next, number_here}
-use Rattle.gr_world.proofs.Joining.{others_none, others_on}
+use Rattle.gr_world.proofs.ByCalls.{lanes_none, lanes_on}
 use Rattle.gr_world.proofs.Composed.{leads_number, ran_none, ran_on, ran_lines, ran_memory, disk_none, disk_on, disk_lines}
 use Rattle.gr_world.proofs.Stepping.{wakes_first, wake_next}
 use Rattle.gr_world.proofs.world.World.wake_each.Goals as goal
@@ -22,7 +22,7 @@ publishers-init g c = record {
   before = λ q h. as_before c.args.b q c.args.self.now;
   none = λ q h _. absurd (omega (arith, h));
   done = so_far_none (λ u p. wake_for (net_in c.args.self.now) u c.args.b p) c.args.self.now;
-  others = others_none c.args.self.now.topo (g.D.Disk.lane_of c.args.disk.now);
+  calls = lanes_none c.args.self.now.topo (g.D.Disk.lane_of c.args.disk.now);
 }
 
 pub returns-in-Err-clause-ran : goal.returns-in-Err-clause-ran
@@ -47,7 +47,7 @@ publishers-preserved g c =
       before = λ q h. as_before_next c.args.b p q c.args.self.now c.publishers.self c.wake_at.new.self (omega (arith, h)) one.apart (sofar.before q (omega (arith, h)));
       none = none_next c.args.b p c.args.self.now c.publishers.self c.in-Ok.told c.requires.fits sofar.ran.fits sofar.ran.keeps c.requires.broker (sofar.before p (omega arith)) one.reopen sofar.none;
       done = so_far_next f (numbers_from 0 p) (numbers_from 0 (p + 1)) p c.args.self.now c.publishers.self c.wake_at.new.self [] c.in-Ok.told (Ok c.in-Ok.told) (number_next p) refl sofar.done (wake_next net c.publishers.self c.args.b p _ _ same one.does);
-      others = others_on c.args.self.now.topo c.publishers.self.topo (g.D.Disk.lane_of c.args.disk.now) (g.D.Disk.lane_of c.publishers.disk) (g.D.Disk.lane_of c.wake_at.new.disk) sofar.ran.keeps.topo sofar.others one.others;
+      calls = lanes_on c.args.self.now.topo c.publishers.self.topo (g.D.Disk.lane_of c.args.disk.now) (g.D.Disk.lane_of c.publishers.disk) (g.D.Disk.lane_of c.wake_at.new.disk) sofar.ran.keeps.topo sofar.calls one.calls;
     }
 
 -- it ends at one of them
@@ -68,18 +68,18 @@ returns-in-Err-clause-ends g c = λ e.
     ends_at (λ (u : World) (q : ℕ). wake_for (net_in a) u c.args.b q) (λ q. WakeEnds c.args.b q (Err c.in-Err.fault)) (numbers_from 0 n) (numbers_from 0 p) (numbers_from (p + 1) (n - (p + 1))) p
     a c.publishers.self c.wake_at.new.self (number_here p n here) sofar.ran.keeps sofar.done c.in-Err.ensures.ends
 
-pub returns-in-Err-clause-others : goal.returns-in-Err-clause-others
-returns-in-Err-clause-others g c =
+pub returns-in-Err-clause-calls : goal.returns-in-Err-clause-calls
+returns-in-Err-clause-calls g c =
     let sofar = c.publishers.invariant in
-    others_on c.args.self.now.topo c.publishers.self.topo (g.D.Disk.lane_of c.args.disk.now) (g.D.Disk.lane_of c.publishers.disk) (g.D.Disk.lane_of c.wake_at.new.disk) sofar.ran.keeps.topo sofar.others c.in-Err.ensures.others
+    lanes_on c.args.self.now.topo c.publishers.self.topo (g.D.Disk.lane_of c.args.disk.now) (g.D.Disk.lane_of c.publishers.disk) (g.D.Disk.lane_of c.wake_at.new.disk) sofar.ran.keeps.topo sofar.calls c.in-Err.ensures.calls
 
 pub returns-in-Err-append-clause-ran : goal.returns-in-Err-append-clause-ran
 returns-in-Err-append-clause-ran g c = ran_memory (ran_on c.publishers.invariant.ran c.in-Ok.ensures.ran)
 
-pub returns-in-Err-append-clause-others : goal.returns-in-Err-append-clause-others
-returns-in-Err-append-clause-others g c =
+pub returns-in-Err-append-clause-calls : goal.returns-in-Err-append-clause-calls
+returns-in-Err-append-clause-calls g c =
     let sofar = c.publishers.invariant in
-    others_on c.args.self.now.topo c.publishers.self.topo (g.D.Disk.lane_of c.args.disk.now) (g.D.Disk.lane_of c.publishers.disk) (g.D.Disk.lane_of c.wake_at.new.disk) sofar.ran.keeps.topo sofar.others c.in-Ok.ensures.others
+    lanes_on c.args.self.now.topo c.publishers.self.topo (g.D.Disk.lane_of c.args.disk.now) (g.D.Disk.lane_of c.publishers.disk) (g.D.Disk.lane_of c.wake_at.new.disk) sofar.ran.keeps.topo sofar.calls c.in-Ok.ensures.calls
 
 pub returns-clause-reopen : goal.returns-clause-reopen
 returns-clause-reopen g c =

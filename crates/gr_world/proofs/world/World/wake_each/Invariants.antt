@@ -4,7 +4,8 @@ use Rattle.gr_model.specs.World.{wake_for, wake_all}
 use Rattle.gr_world.specs.Seen.{net_in, world_of}
 use Rattle.gr_world.specs.Of.{LanesFit}
 use Rattle.gr_world.specs.Ran.{Ran}
-use Rattle.gr_world.specs.Disk.{UsesDisk, LeavesOthers, IsWakeBarred}
+use Rattle.gr_world.specs.Disk.{UsesDisk, IsWakeBarred}
+use Rattle.gr_world.specs.Moments.{CallsLanes}
 use Rattle.gr_world.proofs.Composed.{Leads}
 use Rattle.gr_world.proofs.Barring.{AsBefore}
 use Rattle.gr_world.proofs.Ending.{SoFar}
@@ -20,5 +21,5 @@ invariant-publishers g l = record {
   before : (q : ℕ) → l.p ≤ q → AsBefore l.b q l.initial.self l.self;
   none : (q : ℕ) → q < l.p → IsWakeBarred l.initial.self l.b q → ⊥;
   done : SoFar (λ u p. wake_for (net_in l.initial.self) u l.b p) (numbers_from 0 l.p) l.initial.self l.self;
-  others : LeavesOthers l.initial.self.topo (g.D.Disk.lane_of l.initial.disk) (g.D.Disk.lane_of l.disk);
+  calls : CallsLanes l.initial.self.topo (g.D.Disk.lane_of l.initial.disk) (g.D.Disk.lane_of l.disk);
 }
