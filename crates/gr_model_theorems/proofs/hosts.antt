@@ -2,3 +2,5 @@
 pub mod HostHorizon
 pub mod BareHosts
 pub mod FinalTicks
+pub mod HostFinals
+pub mod HostAlways

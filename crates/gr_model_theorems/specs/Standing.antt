@@ -45,16 +45,20 @@ pub record HeardIsKnown (h : History) (b p : ℕ) (v : View) : Type 0 where
 abbrev pub knows_at : World → ℕ → ℕ → ℕ → K
 knows_at w b p t = known_at (view_of w b p).know t
 
--- The host of p knows of a settled tick what the log says, or that it is final; and of a later tick nothing
-pub record KnowsLog (net : Net) (w : World) (p : ℕ) : Type 0 where
-  pub settled : (t : ℕ) → 1 ≤ t → t ≤ (log_of w p).settled →
-      (knows_at w (net.host p) p t ≡ event_at (log_of w p).events t) ⊎ (knows_at w (net.host p) p t ≡ F)
-  pub past : (t : ℕ) → (log_of w p).settled < t → knows_at w (net.host p) p t ≡ Q
-
 -- every child acknowledged the tick, and a kept horizon has come past it
 abbrev pub is_consolidated_at : Net → World → ℕ → ℕ → ℕ → Bool
 is_consolidated_at net w b p t =
     is_consolidated_by (keeps_horizon net p b) (view_of w b p).horizon (view_of w b p).wants t
+
+-- The host of p knows of a settled tick what the log says, or that it is final; and of a later tick nothing
+pub record KnowsLog (net : Net) (w : World) (p : ℕ) : Type 0 where
+  pub settled : (t : ℕ) → 1 ≤ t → t ≤ (log_of w p).settled →
+      (knows_at w (net.host p) p t ≡ event_at (log_of w p).events t) ⊎ (knows_at w (net.host p) p t ≡ F)
+  -- every tick up to the cut is final, and no other that is not consolidated
+  pub cut : (t : ℕ) → 1 ≤ t → t ≤ (log_of w p).cut → knows_at w (net.host p) p t ≡ F
+  pub only : (t : ℕ) → knows_at w (net.host p) p t ≡ F →
+      (t ≤ (log_of w p).cut) ⊎ IsTrue (is_consolidated_at net w (net.host p) p t)
+  pub past : (t : ℕ) → (log_of w p).settled < t → knows_at w (net.host p) p t ≡ Q
 
 -- a host's kept horizon is where its log is settled, or 0 while nothing was logged or marked since it started
 abbrev pub host_reaches : Net → History → ℕ → ℕ

@@ -28,7 +28,7 @@ use Rattle.gr_broker.specs.Seen.{BrokerView, log_in, log_said}
 use Rattle.gr_report.proofs.Passing.{PassesLog, PassesRest}
 use Rattle.gr_node.specs.Seen.{NodeView, broker_in, none_started, text_of}
 use Rattle.gr_node.specs.Of.{AreHosted, IsSet, AllStand, OthersStay}
-use Rattle.gr_node.specs.Lasting.{Onward, log_read, HoldsOnward, HoldsBetween, IsFound, log_after, IsDuring, ActsKeep, StartsKeep, HoldsLog, Lasts, node_upto, StoodAfter, StoodEachTime}
+use Rattle.gr_node.specs.Lasting.{Onward, log_read, HoldsOnward, HoldsBetween, IsFound, log_after, IsDuring, ActsKeep, StartsKeep, HoldsLog, node_upto, StoodAfter, StoodEachTime}
 use Rattle.gr_node.specs.Plan.{Act, binds, starts, settles, shows, bound_entry, act, told_by_acts, acts_from, turn_acts, run_acts, nodes, plan, all_entries}
 use Rattle.gr_node.specs.Done.{all_done, settled}
 use Rattle.gr_node.specs.Went.{Outside, outside, IsExact, IsPostFault, Bound, fault_entries, uses_disk, FirstIs}

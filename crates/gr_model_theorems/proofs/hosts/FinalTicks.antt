@@ -34,13 +34,13 @@ AllFinal net w = (p b : ℕ) → p < net.publishers → b < net.brokers → Fina
 -- Calls
 
 -- what is final is not forgotten
-forgets_final : (net : Net) (p b h t : ℕ) (full kept : Known) → Forgets net p b h full kept → known_at full t ≡ F → known_at kept t ≡ F
+pub forgets_final : (net : Net) (p b h t : ℕ) (full kept : Known) → Forgets net p b h full kept → known_at full t ≡ F → known_at kept t ≡ F
 forgets_final net p b h t full kept f e = f.kept_is.each t ∙ go (known_at full t) e
   where
     go : (k : K) → k ≡ F → (if is_D k && nat_le t f.last then Q else k) ≡ F
     go k x = subst (λ j. (if is_D j && nat_le t f.last then Q else j) ≡ F) (sym x) refl
 
-knows_final : (net : Net) (p b : ℕ) (at : ℕ → K) (u : View) → Knows net p b at u → FinalTicks net p b u
+pub knows_final : (net : Net) (p b : ℕ) (at : ℕ → K) (u : View) → Knows net p b at u → FinalTicks net p b u
 knows_final net p b at u k t c = forgets_final net p b u.horizon t k.full u.know k.forgets (k.full_is.each t ∙ ap (λ q. if q then F else at t) c)
 
 asks_final : (net : Net) (p b now : ℕ) (wanted : ℕ → Bool) (more : List Frame) (v : View) (log : Log) (o : Outcome) → Asks net p b now wanted more v log o → FinalTicks net p b v → FinalTicks net p b o.view
