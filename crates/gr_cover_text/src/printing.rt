@@ -9,6 +9,7 @@ ghost use Rattle.gr_out.specs.Page.{TakesBut, TakesFront};
 ghost use Rattle.gr_cover.specs.Answer.{answer};
 ghost use Rattle.gr_match_text.specs.Matching.{IsPutFault};
 ghost use Rattle.gr_cover_text.specs.Covers.{verdict_text, cover_line, pair_line, lines_of, covered_text};
+ghost use Rattle.gr_cover_text.specs.Putting.{PutKeeps};
 
 use gr_cover::{Cover, covers};
 use gr_filter::Filter;
@@ -53,9 +54,7 @@ fn put_all<K: Sink>(
         (page.old.held ++ covered_text filters.now) page.new.held) }
     ensures front { OnErr result (TakesFront (K.taken sink.old) (K.taken sink.new)
         (page.old.held ++ covered_text filters.now)) }
-    ensures only { IfErr result IsPutFault }
-    ensures write { IsErrOf result RunFault.Write → Rose (K.faults sink.old) (K.faults sink.new) }
-    ensures same { result ≢ Err RunFault.Write → K.faults sink.new ≡ K.faults sink.old }
+    ensures keeps { PutKeeps (K.faults sink.old) (K.faults sink.new) result }
 {
     'filters: for place in 0..filters.len() {
         match put_lines(alloc, filters, place, page, sink) {
@@ -79,9 +78,7 @@ fn put_lines<K: Sink>(
         (page.old.held ++ lines_of filters.now wide) page.new.held) }
     ensures front { OnErr result (TakesFront (K.taken sink.old) (K.taken sink.new)
         (page.old.held ++ lines_of filters.now wide)) }
-    ensures only { IfErr result IsPutFault }
-    ensures write { IsErrOf result RunFault.Write → Rose (K.faults sink.old) (K.faults sink.new) }
-    ensures same { result ≢ Err RunFault.Write → K.faults sink.new ≡ K.faults sink.old }
+    ensures keeps { PutKeeps (K.faults sink.old) (K.faults sink.new) result }
 {
     'filters: for narrow in 0..filters.len() {
         match put_pair(alloc, filters, wide, narrow, page, sink) {
@@ -107,9 +104,7 @@ fn put_pair<K: Sink>(
         (page.old.held ++ pair_line filters.now wide narrow) page.new.held) }
     ensures front { OnErr result (TakesFront (K.taken sink.old) (K.taken sink.new)
         (page.old.held ++ pair_line filters.now wide narrow)) }
-    ensures only { IfErr result IsPutFault }
-    ensures write { IsErrOf result RunFault.Write → Rose (K.faults sink.old) (K.faults sink.new) }
-    ensures same { result ≢ Err RunFault.Write → K.faults sink.new ≡ K.faults sink.old }
+    ensures keeps { PutKeeps (K.faults sink.old) (K.faults sink.new) result }
 {
     if hold_pair(alloc, filters, wide, narrow, page).is_err() {
         return Err(RunFault::Memory);

@@ -24,5 +24,5 @@ filters-preserved g c =
       put = subst (λ x. TakesBut (g.K.Sink.taken c.args.sink.now) (g.K.Sink.taken c.put_lines.new.sink) x c.put_lines.new.page.held)
           (append_assoc held (text_below text n) (text n) ∙ ap (λ xs. held ++ xs) (sym (text_more text n)))
           (but-later _ _ _ (held ++ text_below text n) (text n) c.filters.page.held c.put_lines.new.page.held c.filters.invariant.put c.in-Ok.ensures.ok);
-      same = c.in-Ok.ensures.same (λ e. cc) ∙ c.filters.invariant.same;
+      same = c.in-Ok.ensures.keeps.same (λ e. cc) ∙ c.filters.invariant.same;
     }
