@@ -25,6 +25,7 @@ pub mod Called
 pub mod Receipts
 pub mod Planned
 pub mod Honest
+pub mod Obeying
 pub mod Taken
 pub mod Moving
 pub mod Opening

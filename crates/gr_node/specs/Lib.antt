@@ -12,3 +12,4 @@ pub mod Begun
 pub mod Calling
 pub mod Ending
 pub mod Submitted
+pub mod Obeyed

@@ -22,6 +22,7 @@ use Rattle.gr_model_theorems.specs.Forgets.{AllOpened}
 use Rattle.gr_model_theorems.specs.Lanes.{HoldsServedLanes}
 use Rattle.gr_model_theorems.specs.OrderedServed.{OrderedServedLanes, OneOrderServedLanes}
 use Rattle.gr_model_theorems.specs.Statements.{AreTotals}
+use Rattle.gr_node.specs.Obeyed.{ObeysRules}
 use Rattle.gr_node.specs.Plan.{Act, binds, starts, shows, ours, nodes, plan, run_acts}
 use Rattle.gr_node.specs.Served.{Course, is_start, planned, IsRunOf, Posts, Prints, KeepsLogs, IsHonestJournal}
 use Rattle.gr_top.specs.Serving.{CanRun, Around, around, served_lines, IsInOrder, RunsTo, StopsBy, EndsBy, AllRead, damaged_line}
@@ -42,6 +43,12 @@ MeetsServed t = (steps : List Line) (c : Course) → AreStepsOf t steps → AllO
     → AllByRecursion IsOfBytes c.came → IsHonestJournal [] (planned t (numbers (length t.brokers)) steps c)
     → HoldsServedLanes (net_of t) c.logs steps (ours (numbers (length t.brokers)) c.came)
 
+-- that what it reports is by the rules
+abbrev pub FollowsRules : TopologyView → Type 0
+FollowsRules t = (steps : List Line) (c : Course) → AreStepsOf t steps → AllOpened t.late c.logs
+    → AllByRecursion IsOfBytes c.came → IsHonestJournal [] (planned t (numbers (length t.brokers)) steps c)
+    → ObeysRules (net_of t) c.logs steps (ours (numbers (length t.brokers)) c.came) (served_lines t steps (numbers (length t.brokers)) c)
+
 -- and that its lists over all publishers are what they are to be
 abbrev pub OrdersServed : TopologyView → Type 0
 OrdersServed t = (steps : List Line) (c : Course) (totals : List ℕ) → AreStepsOf t steps → AllOpened t.late c.logs
@@ -60,9 +67,9 @@ in_order t lines hosted c x = record {
 
 -- so the run came to its answer
 pub runs_to : (t : TopologyView) (lines : List Line) (hosted : List ℕ) (turns : ℕ) (post_tells disk_tells : Type 0) (before after : Around) (answer : Result ⊤ RunFault)
-    → CanRun t lines hosted → MeetsServed t → OrdersServed t → HasRun t lines hosted turns post_tells disk_tells before after answer
+    → CanRun t lines hosted → MeetsServed t → FollowsRules t → OrdersServed t → HasRun t lines hosted turns post_tells disk_tells before after answer
     → RunsTo t lines hosted turns post_tells disk_tells before after answer
-runs_to t lines hosted turns post_tells disk_tells before after answer can meets orders r = record {
+runs_to t lines hosted turns post_tells disk_tells before after answer can meets obeys orders r = record {
   course = r.0;
   is_run = r.1.0;
   posts = r.1.1.0;
@@ -71,6 +78,9 @@ runs_to t lines hosted turns post_tells disk_tells before after answer can meets
   headline = λ all honest.
       subst (λ h. HoldsServedLanes (net_of t) r.0.logs lines (ours h r.0.came)) (sym all)
       (meets lines r.0 can.steps r.1.0.opened r.1.0.bytes (subst (λ h. IsHonestJournal [] (planned t h lines r.0)) all honest));
+  by_rules = λ all honest.
+      subst (λ h. ObeysRules (net_of t) r.0.logs lines (ours h r.0.came) (served_lines t lines h r.0)) (sym all)
+      (obeys lines r.0 can.steps r.1.0.opened r.1.0.bytes (subst (λ h. IsHonestJournal [] (planned t h lines r.0)) all honest));
   ordered = λ all honest.
       subst (λ h. IsInOrder t lines h r.0) (sym all)
       (in_order t lines (numbers (length t.brokers)) r.0
@@ -79,13 +89,13 @@ runs_to t lines hosted turns post_tells disk_tells before after answer can meets
 
 -- a run that a fault ended, and what its status says
 pub stops_by : (t : TopologyView) (lines : List Line) (hosted : List ℕ) (turns : ℕ) (post_tells disk_tells : Type 0) (before after : Around) (fault : RunFault) (status : ℕ)
-    (taken : Option (List ℕ)) → CanRun t lines hosted → MeetsServed t → OrdersServed t
+    (taken : Option (List ℕ)) → CanRun t lines hosted → MeetsServed t → FollowsRules t → OrdersServed t
     → HasRun t lines hosted turns post_tells disk_tells before after (Err fault) → EndsBy t fault status after.taken taken
     → StopsBy t lines hosted turns post_tells disk_tells before (around taken after.journal after.lanes) status
-stops_by t lines hosted turns post_tells disk_tells before after fault status taken can meets orders r ends = record {
+stops_by t lines hosted turns post_tells disk_tells before after fault status taken can meets obeys orders r ends = record {
   fault = fault;
   taken = after.taken;
-  run = runs_to t lines hosted turns post_tells disk_tells before after (Err fault) can meets orders r;
+  run = runs_to t lines hosted turns post_tells disk_tells before after (Err fault) can meets obeys orders r;
   ends = ends;
 }
 

@@ -13,7 +13,7 @@ returns-in-Ok-clause-served g c = λ e.
     runs_to c.args.topo.now c.args.steps.now c.args.hosted.now c.args.turns g.P.Post.tells g.D.Disk.tells
     (around (g.K.Sink.taken c.args.sink.now) (g.P.Post.journal c.args.post.now) (g.D.Disk.lane_of c.args.disk.now))
     (around (g.K.Sink.taken c.serve.new.sink) (g.P.Post.journal c.serve.new.post) (g.D.Disk.lane_of c.serve.new.disk))
-    (Ok tt) c.requires c.an_honest_journal_meets_the_headline.ensures.headline c.an_honest_journal_meets_the_headline.ensures.ordered c.in-Ok.ensures.ran
+    (Ok tt) c.requires c.an_honest_journal_meets_the_headline.ensures.headline c.an_honest_journal_meets_the_headline.ensures.by_rules c.an_honest_journal_meets_the_headline.ensures.ordered c.in-Ok.ensures.ran
 
 pub returns-in-Ok-clause-undamaged : goal.returns-in-Ok-clause-undamaged
 returns-in-Ok-clause-undamaged g c = λ e tells.
@@ -26,7 +26,7 @@ returns-in-Err-Write-clause-stopped g c = λ e.
     stops_by c.args.topo.now c.args.steps.now c.args.hosted.now c.args.turns g.P.Post.tells g.D.Disk.tells
     (around (g.K.Sink.taken c.args.sink.now) (g.P.Post.journal c.args.post.now) (g.D.Disk.lane_of c.args.disk.now))
     (around (g.K.Sink.taken c.serve.new.sink) (g.P.Post.journal c.serve.new.post) (g.D.Disk.lane_of c.serve.new.disk))
-    c.in-Err-Write.field-0 4 (g.K.Sink.taken c.serve.new.sink) c.requires c.an_honest_journal_meets_the_headline.ensures.headline c.an_honest_journal_meets_the_headline.ensures.ordered c.in-Err-Write.ensures.ran
+    c.in-Err-Write.field-0 4 (g.K.Sink.taken c.serve.new.sink) c.requires c.an_honest_journal_meets_the_headline.ensures.headline c.an_honest_journal_meets_the_headline.ensures.by_rules c.an_honest_journal_meets_the_headline.ensures.ordered c.in-Err-Write.ensures.ran
     (ends_at_once c.args.topo.now c.in-Err-Write.field-0 run.Write 4 (g.K.Sink.taken c.serve.new.sink) c.in-Err-Write.field-0-is (refl, refl))
 
 pub returns-in-Err-Disk-clause-stopped : goal.returns-in-Err-Disk-clause-stopped
@@ -34,7 +34,7 @@ returns-in-Err-Disk-clause-stopped g c = λ e.
     stops_by c.args.topo.now c.args.steps.now c.args.hosted.now c.args.turns g.P.Post.tells g.D.Disk.tells
     (around (g.K.Sink.taken c.args.sink.now) (g.P.Post.journal c.args.post.now) (g.D.Disk.lane_of c.args.disk.now))
     (around (g.K.Sink.taken c.serve.new.sink) (g.P.Post.journal c.serve.new.post) (g.D.Disk.lane_of c.serve.new.disk))
-    c.in-Err-Disk.field-0 5 (g.K.Sink.taken c.serve.new.sink) c.requires c.an_honest_journal_meets_the_headline.ensures.headline c.an_honest_journal_meets_the_headline.ensures.ordered c.in-Err-Disk.ensures.ran
+    c.in-Err-Disk.field-0 5 (g.K.Sink.taken c.serve.new.sink) c.requires c.an_honest_journal_meets_the_headline.ensures.headline c.an_honest_journal_meets_the_headline.ensures.by_rules c.an_honest_journal_meets_the_headline.ensures.ordered c.in-Err-Disk.ensures.ran
     (ends_at_once c.args.topo.now c.in-Err-Disk.field-0 run.Disk 5 (g.K.Sink.taken c.serve.new.sink) c.in-Err-Disk.field-0-is (refl, refl))
 
 pub returns-in-Err-Damaged-clause-stopped : goal.returns-in-Err-Damaged-clause-stopped
@@ -42,7 +42,7 @@ returns-in-Err-Damaged-clause-stopped g c = λ e.
     stops_by c.args.topo.now c.args.steps.now c.args.hosted.now c.args.turns g.P.Post.tells g.D.Disk.tells
     (around (g.K.Sink.taken c.args.sink.now) (g.P.Post.journal c.args.post.now) (g.D.Disk.lane_of c.args.disk.now))
     (around (g.K.Sink.taken c.serve.new.sink) (g.P.Post.journal c.serve.new.post) (g.D.Disk.lane_of c.serve.new.disk))
-    c.in-Err-Damaged.field-0 c.print_damaged.result (g.K.Sink.taken c.print_damaged.new.sink) c.requires c.an_honest_journal_meets_the_headline.ensures.headline c.an_honest_journal_meets_the_headline.ensures.ordered c.in-Err-Damaged.ensures.ran
+    c.in-Err-Damaged.field-0 c.print_damaged.result (g.K.Sink.taken c.print_damaged.new.sink) c.requires c.an_honest_journal_meets_the_headline.ensures.headline c.an_honest_journal_meets_the_headline.ensures.by_rules c.an_honest_journal_meets_the_headline.ensures.ordered c.in-Err-Damaged.ensures.ran
     (ends_damaged c.args.topo.now c.in-Err-Damaged.field-0 c.in-Err-Damaged.publisher c.in-Err-Damaged.at c.print_damaged.result (g.K.Sink.taken c.serve.new.sink) (g.K.Sink.taken c.print_damaged.new.sink)
     c.in-Err-Damaged.field-0-is c.print_damaged.ensures.complete c.print_damaged.ensures.printed c.print_damaged.ensures.front)
 
@@ -58,7 +58,7 @@ returns-in-Err-Memory-clause-stopped g c = λ e.
     stops_by c.args.topo.now c.args.steps.now c.args.hosted.now c.args.turns g.P.Post.tells g.D.Disk.tells
     (around (g.K.Sink.taken c.args.sink.now) (g.P.Post.journal c.args.post.now) (g.D.Disk.lane_of c.args.disk.now))
     (around (g.K.Sink.taken c.serve.new.sink) (g.P.Post.journal c.serve.new.post) (g.D.Disk.lane_of c.serve.new.disk))
-    c.in-Err-Memory.field-0 7 (g.K.Sink.taken c.serve.new.sink) c.requires c.an_honest_journal_meets_the_headline.ensures.headline c.an_honest_journal_meets_the_headline.ensures.ordered c.in-Err-Memory.ensures.ran
+    c.in-Err-Memory.field-0 7 (g.K.Sink.taken c.serve.new.sink) c.requires c.an_honest_journal_meets_the_headline.ensures.headline c.an_honest_journal_meets_the_headline.ensures.by_rules c.an_honest_journal_meets_the_headline.ensures.ordered c.in-Err-Memory.ensures.ran
     (ends_at_once c.args.topo.now c.in-Err-Memory.field-0 run.Memory 7 (g.K.Sink.taken c.serve.new.sink) c.in-Err-Memory.field-0-is (refl, refl))
 
 pub returns-in-Err-Post-clause-stopped : goal.returns-in-Err-Post-clause-stopped
@@ -66,5 +66,5 @@ returns-in-Err-Post-clause-stopped g c = λ e.
     stops_by c.args.topo.now c.args.steps.now c.args.hosted.now c.args.turns g.P.Post.tells g.D.Disk.tells
     (around (g.K.Sink.taken c.args.sink.now) (g.P.Post.journal c.args.post.now) (g.D.Disk.lane_of c.args.disk.now))
     (around (g.K.Sink.taken c.serve.new.sink) (g.P.Post.journal c.serve.new.post) (g.D.Disk.lane_of c.serve.new.disk))
-    c.in-Err-Post.field-0 8 (g.K.Sink.taken c.serve.new.sink) c.requires c.an_honest_journal_meets_the_headline.ensures.headline c.an_honest_journal_meets_the_headline.ensures.ordered c.in-Err-Post.ensures.ran
+    c.in-Err-Post.field-0 8 (g.K.Sink.taken c.serve.new.sink) c.requires c.an_honest_journal_meets_the_headline.ensures.headline c.an_honest_journal_meets_the_headline.ensures.by_rules c.an_honest_journal_meets_the_headline.ensures.ordered c.in-Err-Post.ensures.ran
     (ends_at_once c.args.topo.now c.in-Err-Post.field-0 run.Post 8 (g.K.Sink.taken c.serve.new.sink) c.in-Err-Post.field-0-is (refl, refl))
