@@ -76,10 +76,13 @@ pub fn summary_of(alloc: Global, topology: Topology, steps: &Steps) -> Result<Su
     ensures { IfOk result (λ s. s ≡ summary_of (report_of (net_of topology) steps.now)) }
 {
     let mut disk = MemDisk::new(alloc, &[])?;
-    // Over a disk in memory that starts empty and of which no call is to fail, each fault is want of memory.
     let mut world = match opened(alloc, topology, &mut disk) {
         Ok(world) => world,
-        Err(_) => return Err(AllocError),
+        Err(RunFault::Memory) => return Err(AllocError),
+        // A disk in memory that starts empty, and of which no call is to fail.
+        Err(RunFault::Disk | RunFault::Damaged { .. } | RunFault::Write | RunFault::Post) => {
+            unreachable!()
+        }
     };
     let told = carry_out(alloc, &mut world, steps.as_slice(), &mut disk)?;
     let shown = told.shown.as_slice();
@@ -101,7 +104,7 @@ struct Told {
     shown: Reports,
 }
 
-/// Carries out steps over a world.
+/// Carries out steps over a world, on a disk of which no call fails by itself.
 fn carry_out<D: SimDisk>(
     alloc: Global,
     world: &mut World,
@@ -111,6 +114,7 @@ fn carry_out<D: SimDisk>(
     requires going { IsGoing world.old }
     requires steps { AreStepsOf world.old.topo steps.now }
     requires lanes { LanesFit (D.lane_of disk.old) world.old }
+    requires faultless { D.faultless disk.old }
     ensures logged { IfOk result (λ t. t.logged
         ≡ count_by is_logged (all_lines (run_from (net_in world.old) (world_of world.old) steps.now))) }
     ensures got { IfOk result (λ t. t.got
@@ -124,7 +128,11 @@ fn carry_out<D: SimDisk>(
     'steps: for line in steps {
         let told = match step(alloc, world, disk, line) {
             Ok(told) => told,
-            Err(_) => return Err(AllocError),
+            Err(RunFault::Memory) => return Err(AllocError),
+            // The disk fails in no step.
+            Err(RunFault::Disk | RunFault::Damaged { .. } | RunFault::Write | RunFault::Post) => {
+                unreachable!()
+            }
         };
         logged += logged_in(told.as_slice());
         got += got_in(told.as_slice());

@@ -13,6 +13,7 @@ steps-init g c = record {
   going = c.requires.going;
   topology = refl;
   lanes = c.requires.lanes;
+  faultless = c.requires.faultless;
   leads = refl;
   logged = refl;
   got = refl;
@@ -37,6 +38,7 @@ steps-preserved g c =
       going = c.in-Ok.ensures.going;
       topology = c.step.ensures.topology ∙ i.topology;
       lanes = c.step.ensures.lanes;
+      faultless = c.step.ensures.faultless.stays i.faultless;
       leads = leads_step first w steps at l (world_of new) c.steps-test.true c.line-item.is i.topology i.leads (ap (λ (x : Transition). x.world) (sym c.in-Ok.ensures.tells));
       logged = count_more is_logged after before told c.steps.logged c.logged_in-logged.result
           (told_more first w new steps at l told c.steps-test.true c.line-item.is i.topology i.leads c.in-Ok.ensures.tells) i.logged (c.logged_in-logged.ensures.count ∙ ap (count_by is_logged) c.as_slice.ensures);

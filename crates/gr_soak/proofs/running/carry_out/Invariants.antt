@@ -14,6 +14,7 @@ invariant-steps g l = record {
   going : IsGoing l.world;
   topology : l.world.topo ≡ l.initial.world.topo;
   lanes : LanesFit (g.D.Disk.lane_of l.disk) l.world;
+  faultless : g.D.Disk.faultless l.disk;
   leads : world_of l.world ≡ (run_all (net_in l.initial.world) (world_of l.initial.world) (take l.line-index l.steps)).world;
   logged : l.logged ≡ count_by is_logged (all_lines (run_from (net_in l.initial.world) (world_of l.initial.world) (take l.line-index l.steps)));
   got : l.got ≡ count_by is_got (all_lines (run_from (net_in l.initial.world) (world_of l.initial.world) (take l.line-index l.steps)));
