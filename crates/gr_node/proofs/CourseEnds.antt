@@ -33,11 +33,11 @@ use Rattle.gr_node.specs.Plan.{Act, binds, starts, settles, shows, bound_entry, 
 use Rattle.gr_node.specs.Done.{all_done, settled}
 use Rattle.gr_node.specs.Went.{Outside, outside, IsExact, IsPostFault, Bound, fault_entries, uses_disk, FirstIs}
 use Rattle.gr_node.specs.Starting.{Started, Found, IsFirstDamaged, start_lines}
-use Rattle.gr_node.specs.Served.{Course, is_start, IsRefused, IsRunOf, Posts, Prints, LogsLast, IsReached, IsOfRun, RunsAlong, KeepsLogs}
+use Rattle.gr_node.specs.Served.{Course, is_start, IsRefused, IsRunOf, Posts, Prints, LastsFrom, LogsLast, IsReachedFrom, IsReached, IsOfRun, RunsAlong, KeepsLogs}
 use Rattle.gr_node.specs.Ending.{IsEnd, Ran, RanWith, Serves}
 use Rattle.gr_node.proofs.Moving.{IsNode, IsActOf, Moved, hosted_log, moves_all}
 use Rattle.gr_node.proofs.Taken.{node_heard, broker_here, found_in}
-use Rattle.gr_node.proofs.Opening.{binds_nothing, binds_entries, settled_nothing}
+use Rattle.gr_node.proofs.Opening.{binds_nothing, binds_entries, in_turn_append, settled_nothing}
 use Rattle.gr_node.proofs.ToldOrders.{lines_told, plain_binds}
 use Rattle.gr_node.proofs.BoundNodes.{made_all}
 use Rattle.gr_node.proofs.Lasting.{along_as, along_on, starts_same}
@@ -262,6 +262,10 @@ module _ (T : Type 0) (t : TopologyView) (hosted : List ℕ) (are : AreHosted t 
     abbrev acts : List Act
     acts = acts_from (net_of t) hosted (requests_of (net_of t) hosted steps) (take k w.came)
 
+    -- with the bindings and starts before them
+    abbrev acts_k : List Act
+    acts_k = begun t hosted are hosted [] n o (settles ∷ acts)
+
     abbrev world_k : World
     world_k = (let u : Transition = in_turn (act (net_of t) hosted) acts opened_world in u.world)
 
@@ -310,39 +314,84 @@ module _ (T : Type 0) (t : TopologyView) (hosted : List ℕ) (are : AreHosted t 
     later_fine : AllByRecursion (IsFine p any_event) s.later
     later_fine = all_back (IsFine p any_event) acts s.later (subst (AllByRecursion (IsFine p any_event)) (sym s.acts) (turns_fine p t hosted steps w.came w.closed))
 
-    -- what acts have made of the log goes on from it
-    made_onward : (made rest : List Act) → made ++ rest ≡ s.later → Onward then (log_after t hosted node_k made p)
-    made_onward made rest parts =
+    -- Acts that follow: the node's log is the machine's then, and goes on from that before them
+    record Later (made : List Act) : Type 0 where
+      is : log_after t hosted node_k made p ≡ log_of (in_turn (act (net_of t) hosted) (acts_k ++ made) start_world).world p
+      onward : Onward then (log_after t hosted node_k made p)
+
+    later : (made rest : List Act) → made ++ rest ≡ s.later → Later made
+    later made rest parts =
         let all : AllByRecursion (IsActOf t hosted) made = all_front (IsActOf t hosted) made rest (subst (AllByRecursion (IsActOf t hosted)) (sym parts) later_all) in
         let fine : AllByRecursion (IsFine p any_event) made = all_front (IsFine p any_event) made rest (subst (AllByRecursion (IsFine p any_event)) (sym parts) later_fine) in
         let m : Moved t hosted node_k world_k made = moves_all t hosted node_k world_k made passes passes_rest moved_k.node moved_k.hosts all in
         let u : Transition = in_turn (act (net_of t) hosted) made world_k in
         let long = moved_k.node.world_logs in
         let g : Grows p any_event world_k u = acts_grow p any_event (net_of t) hosted made world_k (omega (arith, below, long)) fine in
-        subst (λ (l : Log). Onward l (log_after t hosted node_k made p)) (sym world_is)
-        (subst (λ (l : Log). Onward (log_of world_k p) l) (sym (hosted_log t hosted (all_done t hosted node_k made).node u.world m.node m.hosts p below here))
-        (logs_onward p (log_of world_k p) (log_of u.world p) u.lines g.adds.new g.adds.logs))
+        let here_log = hosted_log t hosted (all_done t hosted node_k made).node u.world m.node m.hosts p below here in
+        record {
+          is = here_log ∙ sym behind;
+          onward =
+              subst (λ (l : Log). Onward l (log_after t hosted node_k made p)) (sym world_is)
+              (subst (λ (l : Log). Onward (log_of world_k p) l) (sym here_log)
+              (logs_onward p (log_of world_k p) (log_of u.world p) u.lines g.adds.new g.adds.logs));
+        }
+      where
+        behind : log_of (in_turn (act (net_of t) hosted) (acts_k ++ made) start_world).world p ≡ log_of (in_turn (act (net_of t) hosted) made world_k).world p
+        behind =
+            ap (λ (v : Transition). log_of v.world p) (in_turn_append (act (net_of t) hosted) acts_k made start_world)
+            ∙ ap (λ (v : Transition). log_of (in_turn (act (net_of t) hosted) made v.world).world p) (turn_behind t hosted are hosted [] n o (settles ∷ acts))
+            ∙ ap (λ (v : Transition). log_of (in_turn (act (net_of t) hosted) made v.world).world p) (settled_nothing (net_of t) hosted acts opened_world)
 
     since_k : (a b : List ℕ) → IsDuring t hosted node_k s.later p a b → HoldsOnward t.late then a b
     since_k a b h = (
       h.holds.0,
       h.holds.1,
-      onward_then then (log_after t hosted node_k h.made p) (log_read h.holds.0) (made_onward h.made (h.next ++ h.left) h.parts) h.holds.2,
+      onward_then then (log_after t hosted node_k h.made p) (log_read h.holds.0) (later h.made (h.next ++ h.left) h.parts).onward h.holds.2,
     )
 
-    pub lasts_k : (mid : Lanes) × Lasts t.late then mid (lanes_at lanes' (log_lane p))
-    lasts_k = (
-      lanes_at s.between (log_lane p),
-      record {
-        stood = stood_k;
-        first = first_k;
-        parts = (s.keep.lanes p).0;
-        since = along_as (IsDuring t hosted node_k s.later p) (HoldsOnward t.late then) since_k (lanes_at s.between (log_lane p)) (lanes_at lanes' (log_lane p)) (s.keep.lanes p).0 (s.keep.lanes p).1;
-      },
-    )
+    -- the acts so far and those that follow are those of the plan
+    plan_k : acts_k ++ (s.later ++ shows ∷ []) ≡ plan t hosted steps w.came w.closed
+    plan_k =
+        plan_behind t hosted are hosted [] n o steps w.came w.closed (settles ∷ acts) (s.later ++ shows ∷ [])
+        (ap (λ (l : List Act). settles ∷ l) (sym (append_assoc acts s.later (shows ∷ [])) ∙ ap (λ (l : List Act). l ++ shows ∷ []) s.acts))
+
+    reached_k : (all_made rest_left : List Act) (a b : List ℕ) → IsDuring t hosted node_k s.later p a b → IsReachedFrom t hosted steps (course_of all_made rest_left) acts_k p a b
+    reached_k all_made rest_left a b h =
+        let rest : List Act = h.left ++ shows ∷ [] in
+        let first : Log = log_of (in_turn (act (net_of t) hosted) (acts_k ++ h.made) start_world).world p in
+        record {
+          made = h.made;
+          next = h.next;
+          left = rest;
+          parts =
+              ap (λ (l : List Act). acts_k ++ l)
+              (ap (λ (l : List Act). h.made ++ l) (sym (append_assoc h.next h.left (shows ∷ [])))
+              ∙ (sym (append_assoc h.made (h.next ++ h.left) (shows ∷ [])) ∙ ap (λ (l : List Act). l ++ shows ∷ []) h.parts))
+              ∙ plan_k;
+          one = h.one;
+          holds = subst (λ (l : Log). HoldsBetween t.late first l a b) (later (h.made ++ h.next) h.left (append_assoc h.made h.next h.left ∙ h.parts)).is
+              (subst (λ (l : Log). HoldsBetween t.late l (log_after t hosted node_k (h.made ++ h.next) p) a b) (later h.made (h.next ++ h.left) h.parts).is h.holds);
+        }
+
+    pub lasts_k : (all_made rest_left : List Act) → (mid : Lanes) × LastsFrom t hosted steps (course_of all_made rest_left) k p mid (lanes_at lanes' (log_lane p))
+    lasts_k all_made rest_left =
+        let mid_k : Lanes = lanes_at s.between (log_lane p) in
+        let last_k : Lanes = lanes_at lanes' (log_lane p) in
+        let on = s.keep.lanes p in (
+          mid_k,
+          record {
+            lasts = record {
+              stood = stood_k;
+              first = first_k;
+              parts = on.0;
+              since = along_as (IsDuring t hosted node_k s.later p) (HoldsOnward t.late then) since_k mid_k last_k on.0 on.1;
+            };
+            reached = along_as (IsDuring t hosted node_k s.later p) (IsReachedFrom t hosted steps (course_of all_made rest_left) acts_k p) (reached_k all_made rest_left) mid_k last_k on.0 on.1;
+          },
+        )
 
   logs_last : (all_made rest_left : List Act) → StoodEachTime t hosted steps (settled n) w.came w.closed lanes' → LogsLast t hosted steps (course_of all_made rest_left) lanes'
-  logs_last all_made rest_left each k lt p below here = lasts_k k (each k lt) p below here
+  logs_last all_made rest_left each k lt p below here = lasts_k k (each k lt) p below here all_made rest_left
 
   -- At every moment
 

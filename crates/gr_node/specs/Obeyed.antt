@@ -39,8 +39,8 @@ ServedByRules net logs steps arrivals [] u = ⊥
 ServedByRules net logs steps arrivals (r ∷ rs) u =
     BeginsByRules net logs r (λ w. ComeByRules net w r (requests_of net (numbers net.brokers) steps) arrivals rs u)
 
--- A whole report of it is by the rules, whatever state is left: of the net in which a late subscriber wants what is past
--- its join, by the joins that the logs of that state have, and over logs that keep the events that they let go
+-- A whole report of it is by the rules, whatever state is left: of the net in which a late subscriber wants what is
+-- past its join, by the joins that the logs of that state have, and over logs that keep the events that they let go
 pub record ObeysRules (net : Net) (logs : List Log) (steps : List Line) (arrivals : List Arrival)
     (rs : List (List Report)) : Type 0 where
   pub left : World

@@ -116,29 +116,39 @@ abbrev pub world_upto : TopologyView → List ℕ → List Line → Course → �
 world_upto t hosted steps c k =
     let s : Transition = in_turn (act (net_of t) hosted) (acts_upto t hosted steps c k) (world_before t c) in s.world
 
--- Nothing that was logged is lost by a crash in the run: once another arrival has come after the first k, the lanes of
--- each publisher stood with what the machine's log had after these, and whatever a crash may have left of them at any
--- moment since then goes on from that
-abbrev pub LogsLast : TopologyView → List ℕ → List Line → Course → (ℕ → Lane) → Type 0
-LogsLast t hosted steps c after = (k : ℕ) → k < length c.came → (p : ℕ) → p < length t.publishers
-    → is_hosted (net_of t) hosted p ≡ true
-    → (mid : Lanes) × Lasts t.late (log_of (world_upto t hosted steps c k) p) mid (lanes_at after (log_lane p))
-
 -- the machine's log of a publisher after acts of a run
 abbrev pub log_then : TopologyView → List ℕ → Course → List Act → ℕ → Log
 log_then t hosted c acts p =
     let s : Transition = in_turn (act (net_of t) hosted) acts (world_before t c) in log_of s.world p
 
--- a pair of images holds what lies between the machine's log after the first acts of the plan and that after one more,
--- or none
-pub record IsReached (t : TopologyView) (hosted : List ℕ) (steps : List Line) (c : Course) (p : ℕ) (a b : List ℕ)
-    : Type 0 where
+-- a pair of images holds what lies between the machine's log after the first acts of the plan, at least these, and that
+-- after one more, or none
+pub record IsReachedFrom (t : TopologyView) (hosted : List ℕ) (steps : List Line) (c : Course) (first : List Act)
+    (p : ℕ) (a b : List ℕ) : Type 0 where
   pub made : List Act
   pub next : List Act
   pub left : List Act
-  pub parts : made ++ (next ++ left) ≡ plan t hosted steps c.came c.closed
+  pub parts : first ++ (made ++ (next ++ left)) ≡ plan t hosted steps c.came c.closed
   pub one : length next ≤ 1
-  pub holds : HoldsBetween t.late (log_then t hosted c made p) (log_then t hosted c (made ++ next) p) a b
+  pub holds : HoldsBetween t.late (log_then t hosted c (first ++ made) p)
+      (log_then t hosted c (first ++ (made ++ next)) p) a b
+
+abbrev pub IsReached : TopologyView → List ℕ → List Line → Course → ℕ → List ℕ → List ℕ → Type 0
+IsReached t hosted steps c p a b = IsReachedFrom t hosted steps c [] p a b
+
+-- The lanes of a publisher stood with what the machine's log had after the first k arrivals. Whatever a crash might
+-- have left of them then goes on from that, and so does what it may have left at any moment since; and this is what the
+-- plan has reached from there
+pub record LastsFrom (t : TopologyView) (hosted : List ℕ) (steps : List Line) (c : Course) (k p : ℕ)
+    (before after : Lanes) : Type 0 where
+  pub lasts : Lasts t.late (log_of (world_upto t hosted steps c k) p) before after
+  pub reached : Along (IsReachedFrom t hosted steps c (acts_upto t hosted steps c k) p) before lasts.parts after
+
+-- Nothing that was logged is lost by a crash in the run: so it is once another arrival has come after the first k
+abbrev pub LogsLast : TopologyView → List ℕ → List Line → Course → (ℕ → Lane) → Type 0
+LogsLast t hosted steps c after = (k : ℕ) → k < length c.came → (p : ℕ) → p < length t.publishers
+    → is_hosted (net_of t) hosted p ≡ true
+    → (mid : Lanes) × LastsFrom t hosted steps c k p mid (lanes_at after (log_lane p))
 
 -- What the lanes of a publisher hold at any moment of a run: what was found there, or, where that is a log, what the
 -- plan has reached from it

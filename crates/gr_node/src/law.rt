@@ -123,8 +123,9 @@ pub fn what_is_logged_was_submitted(topo: &Topology)
 
 /// What a client was answered is never lost again by a crash in the run. Let the journal have offered it that a number
 /// comes next by the time when the acts of the first arrivals were made, and let the log of the publisher have lasted
-/// since, as the logs of every run do (`since` of `KeepsLogs`). Then whatever a crash might have left of the lanes at
-/// that time, or may have left at any moment since, is a log that has every number below the one that was offered.
+/// since, as the logs of every run do (`since` of `KeepsLogs`, its `lasts`). Then whatever a crash might have left of the
+/// lanes at that time, or may have left at any moment since, is a log that has every number below the one that was
+/// offered.
 pub fn what_was_answered_lasts(topo: &Topology)
     ensures lasts { (hosted : List ℕ) (steps : List Line) (c : Course) (k p n : ℕ) (mid after : Lanes)
         → p < length topo.now.publishers → n < 2 ^ 64
