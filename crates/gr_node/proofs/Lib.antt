@@ -33,6 +33,7 @@ pub mod Acting
 pub mod ToldOrders
 pub mod Ended
 pub mod Courses
+pub mod CourseLogs
 pub mod CourseEnds
 pub mod Logging
 pub mod Replying
