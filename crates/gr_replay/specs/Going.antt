@@ -1,5 +1,6 @@
 -- What a replay keeps of a world between two steps, and what its parts answer
-use Rattle.std.specs.Prelude.{◌≡◌, ℕ, ◌≤◌, false, List, [], ◌∷◌, ◌++◌, Result, Err, IsErrOf}
+use Rattle.std.specs.Prelude.{◌≡◌, ◌≢◌, ℕ, ◌≤◌, false, List, [], ◌∷◌, ◌++◌, Result, Err, IsErrOf}
+use Rattle.gr_out.specs.Faults.{Rose}
 use Rattle.gr_out.specs.declared.fault.RunFault.{RunFault}
 use Rattle.gr_out.specs.declared.fault.RunFault.TheVariants as run
 use Rattle.gr_publog.specs.Crash.{EitherRose}
@@ -50,6 +51,11 @@ pub record DiskCounts {T : Type 0} (faults stops faults' stops' : ℕ) (result :
   pub faults_never_fall : faults ≤ faults'
   pub stops_never_fall : stops ≤ stops'
   pub rose : IsErrOf result run.Disk → EitherRose faults faults' stops stops'
+
+-- How the count of a sink's faults moves: it rises where the answer is that the sink failed, and nowhere else.
+pub record SinkCounts {T : Type 0} (faults faults' : ℕ) (result : Result T RunFault) : Type 0 where
+  pub rose : IsErrOf result run.Write → Rose faults faults'
+  pub same : result ≢ Err run.Write → faults' ≡ faults
 
 -- an answer other than that a lane holds no log
 abbrev pub NotDamaged : {T : Type 0} → Result T WorldFault → Type 0

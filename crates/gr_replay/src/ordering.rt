@@ -1,12 +1,11 @@
 //! The lines of a step are put, and behind them what is ready then in the one list of each subscriber that gets one.
 
-ghost use Rattle.std.specs.Prelude.{◌≡◌, ◌≢◌, ◌++◌, Err, IfErr, OnOk, OnErr, IsErrOf};
-ghost use Rattle.gr_out.specs.Faults.{Rose};
+ghost use Rattle.std.specs.Prelude.{◌≡◌, ◌++◌, IfErr, OnOk, OnErr};
 ghost use Rattle.gr_out.specs.Page.{TakesBut, TakesFront};
 ghost use Rattle.gr_model.specs.Text.{labels_of, report_text};
 ghost use Rattle.gr_model.specs.Orders.{ordered, without_ordered, AreOrdersOf};
 ghost use Rattle.gr_report.specs.Named.{AllNamed, IsPutFault};
-ghost use Rattle.gr_replay.specs.Going.{with_ready, left_behind};
+ghost use Rattle.gr_replay.specs.Going.{SinkCounts, with_ready, left_behind};
 
 use gr_model::Report;
 use gr_order_lists::Orders;
@@ -28,8 +27,7 @@ fn put_ready<K: Sink>(
         (page.old.held ++ report_text (labels_of topology.now) (ordered orders.old))) }
     ensures left { OnOk result (orders.new ≡ without_ordered orders.old) }
     ensures only { IfErr result IsPutFault }
-    ensures write { IsErrOf result RunFault.Write → Rose (K.faults sink.old) (K.faults sink.new) }
-    ensures same { result ≢ Err RunFault.Write → K.faults sink.new ≡ K.faults sink.old }
+    ensures sink { SinkCounts (K.faults sink.old) (K.faults sink.new) result }
 {
     let ready = match orders.ready() {
         Ok(ready) => ready,
@@ -55,8 +53,7 @@ pub(crate) fn put_step<K: Sink>(
         (page.old.held ++ report_text (labels_of topology.now) (with_ready orders.old lines.now))) }
     ensures left { OnOk result (orders.new ≡ left_behind orders.old lines.now) }
     ensures only { IfErr result IsPutFault }
-    ensures write { IsErrOf result RunFault.Write → Rose (K.faults sink.old) (K.faults sink.new) }
-    ensures same { result ≢ Err RunFault.Write → K.faults sink.new ≡ K.faults sink.old }
+    ensures sink { SinkCounts (K.faults sink.old) (K.faults sink.new) result }
 {
     match put_all(topology, lines, page, sink) {
         Ok(()) => {}

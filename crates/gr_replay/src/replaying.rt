@@ -18,7 +18,7 @@ ghost use Rattle.gr_out.specs.Page.{TakesFront};
 ghost use Rattle.gr_report.specs.Named.{AllNamed, IsPutFault};
 ghost use Rattle.gr_replay.specs.Replayed.{replayed_text};
 ghost use Rattle.gr_replay.specs.Going.{IsGoing, IsOpeningFault, IsRunFault, NotDamagedRun, DiskCounts, step_text};
-ghost use Rattle.gr_replay.specs.Going.{text_from, with_ready, left_behind};
+ghost use Rattle.gr_replay.specs.Going.{SinkCounts, text_from, with_ready, left_behind};
 ghost use Rattle.gr_replay.specs.Over.{IsOver, ReplaysOver, AtMostCut};
 
 use crate::ordering::put_step;
@@ -165,8 +165,7 @@ fn first_page<K: Sink>(
         (report_text (labels_of world.now.topo) (with_ready orders.old world.now.told))) }
     ensures left { OnOk result (orders.new ≡ left_behind orders.old world.now.told) }
     ensures only { IfErr result IsPutFault }
-    ensures write { IsErrOf result RunFault.Write → Rose (K.faults sink.old) (K.faults sink.new) }
-    ensures same { result ≢ Err RunFault.Write → K.faults sink.new ≡ K.faults sink.old }
+    ensures sink { SinkCounts (K.faults sink.old) (K.faults sink.new) result }
 {
     let mut page = match Page::new(alloc) {
         Ok(page) => page,
@@ -214,8 +213,7 @@ fn turn<K: Sink, D: SimDisk>(
         (D.faults disk.old) (D.faults disk.new) }
     ensures never_fails { D.faultless disk.old → result ≢ Err RunFault.Disk }
     ensures lanes { LanesFit (D.lane_of disk.new) world.new }
-    ensures write { IsErrOf result RunFault.Write → Rose (K.faults sink.old) (K.faults sink.new) }
-    ensures same { result ≢ Err RunFault.Write → K.faults sink.new ≡ K.faults sink.old }
+    ensures sink { SinkCounts (K.faults sink.old) (K.faults sink.new) result }
 {
     match step(alloc, world, disk, line) {
         Ok(lines) => {
@@ -254,8 +252,7 @@ fn run<K: Sink, D: SimDisk>(
     ensures cause { IfErr result IsRunFault }
     ensures counts { DiskCounts (D.faults disk.old) (D.stops disk.old) (D.faults disk.new) (D.stops disk.new) result }
     ensures never_fails { D.faultless disk.old → result ≢ Err RunFault.Disk }
-    ensures write { IsErrOf result RunFault.Write → Rose (K.faults sink.old) (K.faults sink.new) }
-    ensures same { result ≢ Err RunFault.Write → K.faults sink.new ≡ K.faults sink.old }
+    ensures sink { SinkCounts (K.faults sink.old) (K.faults sink.new) result }
 {
     'steps: for line in steps {
         match turn(alloc, world, line, disk, orders, page, sink) {

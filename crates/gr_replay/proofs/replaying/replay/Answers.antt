@@ -83,7 +83,7 @@ returns-in-Err-clause-damaged g c = λ p at e.
 
 pub returns-in-Err-first_page-clause-sink_same : goal.returns-in-Err-first_page-clause-sink_same
 returns-in-Err-first_page-clause-sink_same g c = λ other.
-    c.in-Err-first_page.ensures.same (λ e. let same : c.in-Err-first_page.fault ≡ run.Write = cc in other (ap (λ f. Err f) same))
+    c.in-Err-first_page.ensures.sink.same (λ e. let same : c.in-Err-first_page.fault ≡ run.Write = cc in other (ap (λ f. Err f) same))
 
 pub returns-clause-over : goal.returns-clause-over
 returns-clause-over g c =

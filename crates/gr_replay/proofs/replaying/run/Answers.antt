@@ -64,7 +64,7 @@ steps-preserved g c =
       put = subst (λ xs. TakesBut (g.K.Sink.taken c.args.sink.now) (g.K.Sink.taken c.turn.new.sink) xs c.turn.new.page.held)
           (append_assoc held done text ∙ ap (λ xs. held ++ xs) (sym (text_step first w os now steps at l c.steps-test.true c.line-item.is i.topology i.leads i.left)))
           (but-later _ _ _ (held ++ done) text c.steps.page.held c.turn.new.page.held i.put c.in-Ok.ensures.put);
-      same = c.in-Ok.ensures.same (λ e. cc) ∙ i.same;
+      same = c.in-Ok.ensures.sink.same (λ e. cc) ∙ i.same;
       faults = omega (arith, i.faults, c.turn.ensures.counts.faults_never_fall);
       stops = omega (arith, i.stops, c.turn.ensures.counts.stops_never_fall);
       faultless = λ h. c.turn.ensures.faultless.stays (i.faultless h);
