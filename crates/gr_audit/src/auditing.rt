@@ -43,7 +43,7 @@ pub fn audit<M: Machine>(
 }
 
 /// Whether some publisher has a client.
-fn has_clients(topo: &Topology) -> bool
+pub fn has_clients(topo: &Topology) -> bool
     ensures { result ≡ has_clients topo.now }
 {
     for p in 0..topo.publishers() {

@@ -19,7 +19,7 @@ mod mark;
 mod verdict;
 
 pub use asked::read_scenario;
-pub use auditing::audit;
+pub use auditing::{audit, has_clients};
 pub use comparison::Comparison;
 pub use given::Given;
 pub use gr_journal::AuditFault;

@@ -1,5 +1,5 @@
 -- The lines of a journal behind its first: what came, and what a process told and offered then
-use Rattle.std.specs.Prelude.{ℕ, List, [], ◌∷◌, ◌++◌, codes}
+use Rattle.std.specs.Prelude.{ℕ, Bool, true, nat_eq, if◌then◌else◌, List, [], ◌∷◌, ◌++◌, codes}
 use Rattle.std.specs.List.{flat_map}
 use Rattle.gr_topo.specs.Topology.{TopologyView, name_at}
 use Rattle.gr_journal.specs.declared.arrival.Arrival.{Arrival}
@@ -23,6 +23,12 @@ Behavior = List ℕ → List Arrival → Arrival → Group
 
 abbrev pub say_text : List ℕ → List ℕ
 say_text line = codes "say " ++ line
+
+-- the same of lines that stand one after another: each line, with its end, stands behind its words. The first byte begins
+-- a line, or it does not
+abbrev pub said_text : Bool → List ℕ → List ℕ
+said_text begins [] = []
+said_text begins (byte ∷ lines) = (if begins then codes "say " else []) ++ byte ∷ said_text (nat_eq byte 10) lines
 
 abbrev pub offer_text : TopologyView → Offer → List ℕ
 offer_text t o = codes "out" ++ (behind_space (name_at t.brokers o.from) ++ (behind_space (name_at t.brokers o.to)

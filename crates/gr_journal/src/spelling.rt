@@ -1,10 +1,11 @@
 //! The lines of a journal in their one spelling.
 
-ghost use Rattle.std.specs.Prelude.{◌≡◌, ◌++◌, IfOk, OnOk};
+ghost use Rattle.std.specs.Prelude.{◌≡◌, true, if◌then◌else◌, [], ◌∷◌, ◌++◌, codes, IfOk, OnOk};
 ghost use Rattle.std.specs.List.{flat_map};
-ghost use Rattle.gr_topo.specs.Topology.{name_at};
+ghost use Rattle.gr_topo.specs.Topology.{TopologyView, name_at};
 ghost use Rattle.gr_journal.specs.Words.{hex_pair, datagram_word};
 ghost use Rattle.gr_journal.specs.Lines.{rising, behind_space, name_if_among, process_text, arrival_text};
+ghost use Rattle.gr_journal.specs.Groups.{said_text, offer_text};
 
 use crate::arrival::Arrival;
 use crate::form::is_among;
@@ -13,11 +14,7 @@ use gr_topo::Topology;
 use std::alloc::{AllocError, Global};
 
 /// The process line of these brokers, rising.
-pub(crate) fn process_text(
-    alloc: Global,
-    topo: &Topology,
-    brokers: &[u16],
-) -> Result<Text, AllocError>
+pub fn process_text(alloc: Global, topo: &Topology, brokers: &[u16]) -> Result<Text, AllocError>
     ensures { IfOk result (λ text. text ≡ process_text topo.now brokers.now) }
 {
     let mut text = Text::from_slice(alloc, b"process")?;
@@ -72,24 +69,41 @@ pub(crate) fn push_arrival(
     ensures { OnOk result (text.new ≡ text.old ++ arrival_text topo.now arrival.now) }
 {
     match arrival {
-        Arrival::Quiet { moment } => {
-            text.append(b"quiet")?;
-            text.append_number(b' ', *moment)?;
-            text.push(b'\n')
-        }
+        Arrival::Quiet { moment } => push_quiet(*moment, text),
         Arrival::Datagram {
             broker,
             moment,
             bytes,
-        } => {
-            text.append(b"in")?;
-            text.append_word(b' ', name_of(topo, *broker))?;
-            text.append_number(b' ', *moment)?;
-            text.push(b' ')?;
-            push_bytes(bytes.as_slice(), text)?;
-            text.push(b'\n')
-        }
+        } => push_datagram(topo, *broker, *moment, bytes.as_slice(), text),
     }
+}
+
+/// Puts the line of a quiet moment at the end.
+pub fn push_quiet(moment: u64, text: &mut Text) -> Result<(), AllocError>
+    ensures { (t : TopologyView) → OnOk result (text.new ≡ text.old ++ arrival_text t (Arrival.Quiet moment)) }
+{
+    text.append(b"quiet")?;
+    text.append_number(b' ', moment)?;
+    text.push(b'\n')
+}
+
+/// Puts the line of a datagram to a broker at the end.
+pub fn push_datagram(
+    topo: &Topology,
+    broker: u16,
+    moment: u64,
+    bytes: &[u8],
+    text: &mut Text,
+) -> Result<(), AllocError>
+    ensures { OnOk result (text.new
+        ≡ text.old ++ arrival_text topo.now (Arrival.Datagram broker moment bytes.now)) }
+{
+    text.append(b"in")?;
+    text.append_word(b' ', name_of(topo, broker))?;
+    text.append_number(b' ', moment)?;
+    text.push(b' ')?;
+    push_bytes(bytes, text)?;
+    text.push(b'\n')
 }
 
 /// Puts the word of a datagram's bytes at the end.
@@ -114,4 +128,45 @@ fn push_hex(bytes: &[u8], text: &mut Text) -> Result<(), AllocError>
         text.push(HEX_DIGITS[(*byte % 16) as usize])?;
     }
     Ok(())
+}
+
+/// Puts lines of a report at the end, each with its end and `say ` before it.
+pub fn push_said(lines: &[u8], text: &mut Text) -> Result<(), AllocError>
+    ensures { OnOk result (text.new ≡ text.old ++ said_text true lines.now) }
+{
+    let mut begins = true;
+    'bytes: for byte in lines {
+        push_said_byte(*byte, begins, text)?;
+        begins = *byte == b'\n';
+    }
+    Ok(())
+}
+
+/// Puts a byte of a report at the end, `say ` before it where it begins a line.
+fn push_said_byte(byte: u8, begins: bool, text: &mut Text) -> Result<(), AllocError>
+    ensures { OnOk result (text.new ≡ text.old ++ ((if begins then codes "say " else []) ++ byte ∷ [])) }
+{
+    if begins {
+        text.append(b"say ")?;
+    }
+    text.push(byte)
+}
+
+/// Puts the line of an offer at the end: bytes of one broker to another.
+pub fn push_offer(
+    topo: &Topology,
+    from: u16,
+    to: u16,
+    bytes: &[u8],
+    text: &mut Text,
+) -> Result<(), AllocError>
+    ensures { OnOk result (text.new
+        ≡ text.old ++ offer_text topo.now (record { from = from; to = to; bytes = bytes.now })) }
+{
+    text.append(b"out")?;
+    text.append_word(b' ', name_of(topo, from))?;
+    text.append_word(b' ', name_of(topo, to))?;
+    text.push(b' ')?;
+    push_hex(bytes, text)?;
+    text.push(b'\n')
 }
