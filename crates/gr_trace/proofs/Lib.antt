@@ -1,0 +1,26 @@
+-- Lemmas on journals of runs
+pub mod OneLine
+pub mod Said
+pub mod Sends
+pub mod Group
+pub mod InMemory
+pub mod Waiting
+pub mod Putting
+pub mod Groups
+pub mod Written
+pub mod Coming
+pub mod Turning
+pub mod Imagined
+pub mod Journal
+pub mod Expected
+pub mod Fresh
+pub mod Begun
+pub mod Turns
+pub mod TracedRun
+pub mod Replies
+pub mod OneTurn
+pub mod Opening
+pub mod Behind
+pub mod TracedCourse
+pub mod TracedStart
+pub mod TracedEnd

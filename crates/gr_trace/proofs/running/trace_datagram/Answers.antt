@@ -1,0 +1,54 @@
+use Rattle.std.proofs.Common.{◌++◌, sym, ap, ◌∙◌}
+use Rattle.gr_out.specs.Page.{PageView}
+use Rattle.gr_journal.specs.Lines.{arrival_text}
+use Rattle.gr_journal.specs.declared.arrival.Arrival.TheVariants.{Datagram}
+use Rattle.gr_model.specs.Arrivals.{datagram}
+use Rattle.gr_node.specs.Seen.{seen}
+use Rattle.gr_node.specs.Done.{at_arrival}
+use Rattle.gr_node.proofs.Lasting.{acts_same}
+use Rattle.gr_trace.proofs.Coming.{ok_from, moves_from, cause_from, wrote_came, wrote_unput, wrote_elsewhere}
+use Rattle.gr_trace.proofs.running.trace_datagram.Goals as goal
+
+pub returns-then-not-is_among-clause-bytes : goal.returns-then-not-is_among-clause-bytes
+returns-then-not-is_among-clause-bytes g c = λ i. (c.type_inv.bytes i).fits
+
+pub returns-in-Err-clause-bytes : goal.returns-in-Err-clause-bytes
+returns-in-Err-clause-bytes g c = λ i. (c.type_inv.bytes i).fits
+
+pub returns-then-not-is_among-clause-wrote : goal.returns-then-not-is_among-clause-wrote
+returns-then-not-is_among-clause-wrote g c = λ left.
+    wrote_elsewhere c.args.site.now.topo.now c.args.site.now.hosted.now g.P.Post.tells left c.args.b c.args.bytes.now c.args.moment (sym c.is_among.ensures ∙ c.if-not-is_among.true) (seen c.args.node.now) (g.K.Sink.taken c.args.sink.now) (g.P.Post.journal c.args.post.now) tt
+
+pub returns-then-not-is_among-clause-kept : goal.returns-then-not-is_among-clause-kept
+returns-then-not-is_among-clause-kept g c = λ tells left. acts_same c.args.site.now.topo.now c.args.site.now.hosted.now _ _ (g.D.Disk.lane_of c.args.disk.now)
+
+pub returns-in-Err-clause-wrote : goal.returns-in-Err-clause-wrote
+returns-in-Err-clause-wrote g c = λ left.
+    wrote_unput c.args.site.now.topo.now c.args.site.now.hosted.now g.P.Post.tells _ (at_arrival c.args.site.now.hosted.now (seen c.args.node.now) (datagram c.args.b c.args.bytes.now c.args.moment)) (seen c.args.node.now) _ (g.K.Sink.taken c.args.sink.now) (g.P.Post.journal c.args.post.now)
+
+pub returns-in-Err-clause-kept : goal.returns-in-Err-clause-kept
+returns-in-Err-clause-kept g c = λ tells left. acts_same c.args.site.now.topo.now c.args.site.now.hosted.now _ _ (g.D.Disk.lane_of c.args.disk.now)
+
+pub returns-clause-wrote : goal.returns-clause-wrote
+returns-clause-wrote g c = λ left.
+    let t = c.args.site.now.topo.now in
+    let hosted = c.args.site.now.hosted.now in
+    let a = datagram c.args.b c.args.bytes.now c.args.moment in
+    wrote_came t hosted c.brokers.ensures.topology g.P.Post.tells left a (sym c.is_among.ensures ∙ c.if-not-is_among.false) (at_arrival hosted (seen c.args.node.now) a) (seen c.take_datagram-done.new.node) c.take_datagram-done.new.gathered c.push_datagram.new.text
+    (g.K.Sink.taken c.args.sink.now) (g.K.Sink.taken c.write_gathered.new.sink) (g.P.Post.journal c.args.post.now) (g.P.Post.journal c.write_gathered.new.post) c.take_datagram-done.result c.write_gathered.result
+    (c.in-Ok.ensures ∙ (ap (λ (p : PageView). p.held ++ arrival_text t (Datagram c.args.b c.min.result c.args.bytes.now)) c.page.view_is ∙ (ap (λ held. held ++ arrival_text t (Datagram c.args.b c.min.result c.args.bytes.now)) c.requires.written ∙ ap (λ moment. arrival_text t (Datagram c.args.b moment c.args.bytes.now)) c.min.ensures)))
+    c.write_gathered.ensures.writes c.take_datagram-done.ensures.cause (λ x. c.take_datagram-done.ensures.went x left)
+
+pub returns-clause-serving : goal.returns-clause-serving
+returns-clause-serving g c = ok_from c.take_datagram-done.result c.write_gathered.result _ c.write_gathered.ensures.writes.same c.take_datagram-done.ensures.serving
+
+pub returns-clause-keeps : goal.returns-clause-keeps
+returns-clause-keeps g c = record {
+  others = c.take_datagram-done.ensures.keeps.others;
+  disk_moves = moves_from _ _ _ _ c.take_datagram-done.result c.write_gathered.result c.write_gathered.ensures.writes.same c.take_datagram-done.ensures.keeps.disk_moves;
+  sink_moves = c.write_gathered.ensures.sink;
+  post_same = c.write_gathered.ensures.post;
+}
+
+pub returns-clause-cause : goal.returns-clause-cause
+returns-clause-cause g c = cause_from c.take_datagram-done.result c.write_gathered.result c.take_datagram-done.ensures.cause c.write_gathered.ensures.cause

@@ -1,0 +1,4 @@
+pub mod Offered
+pub mod Gathered
+pub mod Traced
+pub mod Wrote

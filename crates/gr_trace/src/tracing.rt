@@ -1,0 +1,205 @@
+//! A whole run that is written as a journal.
+
+ghost use Rattle.std.specs.Prelude.{◌≡◌, ◌≢◌, ℕ, ◌++◌, false, List, [], map, Err, OnOk, IsOkUnless};
+ghost use Rattle.gr_out.specs.Entry.{Entry};
+ghost use Rattle.gr_scenario.specs.Steps.{AreStepsOf};
+ghost use Rattle.gr_audit.specs.Audited.{has_clients};
+ghost use Rattle.gr_node.specs.Of.{AreHosted, AreAddressed};
+ghost use Rattle.gr_node.specs.Keeps.{IsServing, IsAsked, IsDamagedHere};
+ghost use Rattle.gr_node.specs.Lasting.{StartsKeep};
+ghost use Rattle.gr_node.specs.Plan.{bound_entry, nodes};
+ghost use Rattle.gr_node.specs.Seen.{seen, none_started};
+ghost use Rattle.gr_node.specs.Starting.{IsFirstDamaged};
+ghost use Rattle.gr_node.specs.Served.{Course, IsRunOf, Posts, KeepsLogs};
+ghost use Rattle.gr_node.specs.Went.{SinkMoves, DiskMoves, PostMoves};
+ghost use Rattle.gr_journal.specs.Lines.{process_text};
+ghost use Rattle.gr_trace.specs.Gathered.{IsEmpty, DiskKeeps};
+ghost use Rattle.gr_trace.specs.Traced.{Traces};
+ghost use Rattle.gr_trace.specs.Wrote.{OpeningTraced, RunTraced};
+
+use crate::gathering::{Gathered, open};
+use crate::running::{run, write_gathered};
+use gr_broker::frames_pass_the_log;
+use gr_journal::process_text;
+use gr_node::{Node, Site, bind_all};
+use gr_out::{Disk, Page, Post, RunFault, Sink};
+use gr_pace::Paced;
+use gr_publog::law::stands_read;
+use gr_sched::{Line, Steps};
+use gr_topo::Topology;
+use std::alloc::Global;
+
+/// Puts the line of the process into an empty page.
+fn put_process(site: &Site<'_>, page: &mut Page) -> Result<(), RunFault>
+    ensures put { OnOk result (page.new.held ≡ process_text site.now.topo.now site.now.hosted.now) }
+    ensures cause { IsOkUnless result RunFault.Memory }
+{
+    match process_text(site.alloc, site.topo, site.hosted) {
+        Ok(text) => {
+            page.held = text;
+            Ok(())
+        }
+        Err(_) => Err(RunFault::Memory),
+    }
+}
+
+/// The hosted brokers start, and the line of the process and what the starts tell are written.
+fn trace_opening<D: Disk, P: Post, K: Sink>(
+    site: &Site<'_>,
+    node: &mut Node,
+    disk: &mut D,
+    post: &mut P,
+    gathered: &mut Gathered,
+    page: &mut Page,
+    sink: &mut K,
+) -> Result<(), RunFault>
+    requires hosted { AreHosted site.now.topo.now site.now.hosted.now }
+    requires none { seen node.old ≡ none_started site.now.topo.now }
+    requires empty { IsEmpty gathered.old }
+    ensures opening { OpeningTraced site.now.topo.now site.now.hosted.now D.tells (seen node.new)
+        (process_text site.now.topo.now site.now.hosted.now) (K.taken sink.old) (K.taken sink.new)
+        (D.lane_of disk.old) result }
+    ensures empty { OnOk result (IsEmpty gathered.new) }
+    ensures written { OnOk result (page.new.held ≡ []) }
+    ensures serving { OnOk result
+        (IsServing site.now.topo.now site.now.hosted.now D.tells (D.lane_of disk.new) (seen node.new)) }
+    ensures keeps { DiskKeeps site.now.topo.now site.now.hosted.now D.tells D.lane_of D.faults D.stops
+        disk.old disk.new result }
+    ensures kept { D.tells → StartsKeep site.now.topo.now.late (D.lane_of disk.old) (D.lane_of disk.new) }
+    ensures damaged { D.tells → (p at : ℕ) → result ≡ Err (RunFault.Damaged p at)
+        → IsFirstDamaged site.now.topo.now site.now.hosted.now p at (D.lane_of disk.old) }
+    ensures damaged_here { IsDamagedHere site.now.topo.now site.now.hosted.now result }
+    ensures never_post { result ≢ Err RunFault.Post }
+    ensures sink { SinkMoves (K.faults sink.old) (K.faults sink.new) result }
+    ensures post { P.faults post.new ≡ P.faults post.old }
+    ensures unsent { P.tells → P.journal post.new ≡ P.journal post.old }
+{
+    match put_process(site, page) {
+        Ok(()) => {}
+        Err(fault) => return Err(fault),
+    }
+    let done = open(site, node, disk, gathered);
+    write_gathered(site.topo, done, gathered, post, page, sink)
+}
+
+/// Traces with what is new, once all nodes are bound.
+fn trace_with<D: Disk, P: Paced, K: Sink>(
+    site: &Site<'_>,
+    node: &mut Node,
+    gathered: &mut Gathered,
+    page: &mut Page,
+    steps: &[Line],
+    turns: u64,
+    disk: &mut D,
+    post: &mut P,
+    sink: &mut K,
+) -> Result<(), RunFault>
+    requires asked { IsAsked site.now.topo.now site.now.hosted.now steps.now }
+    requires unheard { has_clients site.now.topo.now ≡ false }
+    requires none { seen node.old ≡ none_started site.now.topo.now }
+    requires empty { IsEmpty gathered.old }
+    ensures traces { (journal : List Entry) → (P.tells → P.journal post.old ≡ journal
+        ++ map (bound_entry site.now.topo.now site.now.hosted.now) (nodes site.now.topo.now site.now.hosted.now))
+        → RunTraced site.now.topo.now site.now.hosted.now steps.now turns P.tells D.tells journal (P.journal post.new)
+        (K.taken sink.old) (K.taken sink.new) (D.lane_of disk.old) (D.lane_of disk.new) result }
+    ensures damaged_here { IsDamagedHere site.now.topo.now site.now.hosted.now result }
+    ensures disk { DiskMoves (D.faults disk.old) (D.stops disk.old) (D.faults disk.new) (D.stops disk.new) result }
+    ensures sink { SinkMoves (K.faults sink.old) (K.faults sink.new) result }
+    ensures post { PostMoves (P.faults post.old) (P.faults post.new) result }
+{
+    // Proof only: the limits of a topology, what stands in lanes, and that no log has a part in what is received.
+    let _ = site.topo.brokers();
+    stands_read();
+    frames_pass_the_log();
+    match trace_opening(site, node, disk, post, gathered, page, sink) {
+        Ok(()) => run(site, node, steps, turns, disk, post, gathered, page, sink),
+        Err(fault) => Err(fault),
+    }
+}
+
+/// Traces, once all nodes are bound.
+fn trace_bound<D: Disk, P: Paced, K: Sink>(
+    site: &Site<'_>,
+    steps: &[Line],
+    turns: u64,
+    disk: &mut D,
+    post: &mut P,
+    sink: &mut K,
+) -> Result<(), RunFault>
+    requires asked { IsAsked site.now.topo.now site.now.hosted.now steps.now }
+    requires unheard { has_clients site.now.topo.now ≡ false }
+    ensures traces { (journal : List Entry) → (P.tells → P.journal post.old ≡ journal
+        ++ map (bound_entry site.now.topo.now site.now.hosted.now) (nodes site.now.topo.now site.now.hosted.now))
+        → RunTraced site.now.topo.now site.now.hosted.now steps.now turns P.tells D.tells journal (P.journal post.new)
+        (K.taken sink.old) (K.taken sink.new) (D.lane_of disk.old) (D.lane_of disk.new) result }
+    ensures damaged_here { IsDamagedHere site.now.topo.now site.now.hosted.now result }
+    ensures disk { DiskMoves (D.faults disk.old) (D.stops disk.old) (D.faults disk.new) (D.stops disk.new) result }
+    ensures sink { SinkMoves (K.faults sink.old) (K.faults sink.new) result }
+    ensures post { PostMoves (P.faults post.old) (P.faults post.new) result }
+{
+    // Proof only: the limits of a topology.
+    let _ = site.topo.brokers();
+    let mut node = match Node::new(site.alloc, site.topo) {
+        Ok(node) => node,
+        Err(_) => return Err(RunFault::Memory),
+    };
+    let mut gathered = match Gathered::new(site.alloc) {
+        Ok(gathered) => gathered,
+        Err(_) => return Err(RunFault::Memory),
+    };
+    let mut page = match Page::new(site.alloc) {
+        Ok(page) => page,
+        Err(_) => return Err(RunFault::Memory),
+    };
+    trace_with(
+        site,
+        &mut node,
+        &mut gathered,
+        &mut page,
+        steps,
+        turns,
+        disk,
+        post,
+        sink,
+    )
+}
+
+/// Serves the hosted brokers of a topology over a post, with their logs on a disk, and writes their journal to a sink:
+/// the line of the process, what the starts tell, and for each arrival its line, the lines of the report and the
+/// offers. No publisher may have a client.
+pub fn trace<D: Disk, P: Paced, K: Sink>(
+    alloc: Global,
+    topo: &Topology,
+    steps: &Steps,
+    hosted: &[u16],
+    turns: u64,
+    disk: &mut D,
+    post: &mut P,
+    sink: &mut K,
+) -> Result<(), RunFault>
+    requires steps { AreStepsOf topo.now steps.now }
+    requires hosted { AreHosted topo.now hosted.now }
+    requires addressed { AreAddressed topo.now }
+    requires unheard { has_clients topo.now ≡ false }
+    ensures ran { (c : Course) × (IsRunOf topo.now hosted.now steps.now turns c result
+        × ((P.tells → Posts topo.now hosted.now steps.now c (P.journal post.old) (P.journal post.new) result)
+        × (Traces topo.now hosted.now steps.now c (K.taken sink.old) (K.taken sink.new) result
+        × (D.tells → KeepsLogs topo.now hosted.now steps.now c (D.lane_of disk.old) (D.lane_of disk.new) result)))) }
+    ensures damaged_here { IsDamagedHere topo.now hosted.now result }
+    ensures disk { DiskMoves (D.faults disk.old) (D.stops disk.old) (D.faults disk.new) (D.stops disk.new) result }
+    ensures sink { SinkMoves (K.faults sink.old) (K.faults sink.new) result }
+    ensures post { PostMoves (P.faults post.old) (P.faults post.new) result }
+{
+    // Proof only: the limits of a topology.
+    let _ = topo.brokers();
+    let site = Site {
+        alloc,
+        topo,
+        hosted,
+    };
+    match bind_all(&site, post) {
+        Ok(()) => {}
+        Err(fault) => return Err(fault),
+    }
+    trace_bound(&site, steps.as_slice(), turns, disk, post, sink)
+}
