@@ -7,3 +7,4 @@ pub mod JoinLemmas
 pub mod SweptLemmas
 pub mod CutLemmas
 pub mod RunLemmas
+pub mod AuditLemmas

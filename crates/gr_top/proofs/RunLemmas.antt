@@ -24,17 +24,18 @@ use Rattle.gr_model_theorems.specs.OrderedServed.{OrderedServedLanes, OneOrderSe
 use Rattle.gr_model_theorems.specs.Statements.{AreTotals}
 use Rattle.gr_node.specs.Obeyed.{ObeysRules}
 use Rattle.gr_node.specs.Plan.{Act, binds, starts, shows, ours, nodes, plan, run_acts}
-use Rattle.gr_node.specs.Served.{Course, is_start, planned, IsRunOf, Posts, Prints, KeepsLogs, IsHonestJournal}
-use Rattle.gr_top.specs.Serving.{CanRun, Around, around, served_lines, IsInOrder, RunsTo, StopsBy, EndsBy, AllRead, damaged_line}
+use Rattle.gr_node.specs.Served.{Course, is_start, planned, IsRunOf, Posts, KeepsLogs, IsHonestJournal}
+use Rattle.gr_top.specs.declared.voice.Voice.{Voice}
+use Rattle.gr_top.specs.Serving.{CanRun, Writes, Around, around, served_lines, IsInOrder, RunsTo, StopsBy, EndsBy, AllRead, damaged_line}
 use Rattle.gr_top.specs.Top.{IsCut}
 use Rattle.gr_top.proofs.OrderLemmas.{are_totals, are_behind}
 
 -- what the run itself says of its course
-abbrev pub HasRun : TopologyView → List Line → List ℕ → ℕ → Type 0 → Type 0 → Around → Around → Result ⊤ RunFault → Type 0
-HasRun t lines hosted turns post_tells disk_tells before after answer =
+abbrev pub HasRun : Voice → TopologyView → List Line → List ℕ → ℕ → Type 0 → Type 0 → Around → Around → Result ⊤ RunFault → Type 0
+HasRun voice t lines hosted turns post_tells disk_tells before after answer =
     (c : Course) × (IsRunOf t hosted lines turns c answer
     × ((post_tells → Posts t hosted lines c before.journal after.journal answer)
-    × (Prints t hosted lines c before.taken after.taken answer
+    × (Writes voice t lines hosted c before.taken after.taken answer
     × (disk_tells → KeepsLogs t hosted lines c before.lanes after.lanes answer))))
 
 -- that an honest journal of all brokers meets the headline
@@ -66,10 +67,10 @@ in_order t lines hosted c x = record {
 }
 
 -- so the run came to its answer
-pub runs_to : (t : TopologyView) (lines : List Line) (hosted : List ℕ) (turns : ℕ) (post_tells disk_tells : Type 0) (before after : Around) (answer : Result ⊤ RunFault)
-    → CanRun t lines hosted → MeetsServed t → FollowsRules t → OrdersServed t → HasRun t lines hosted turns post_tells disk_tells before after answer
-    → RunsTo t lines hosted turns post_tells disk_tells before after answer
-runs_to t lines hosted turns post_tells disk_tells before after answer can meets obeys orders r = record {
+pub runs_to : (voice : Voice) (t : TopologyView) (lines : List Line) (hosted : List ℕ) (turns : ℕ) (post_tells disk_tells : Type 0) (before after : Around) (answer : Result ⊤ RunFault)
+    → CanRun voice t lines hosted → MeetsServed t → FollowsRules t → OrdersServed t → HasRun voice t lines hosted turns post_tells disk_tells before after answer
+    → RunsTo voice t lines hosted turns post_tells disk_tells before after answer
+runs_to voice t lines hosted turns post_tells disk_tells before after answer can meets obeys orders r = record {
   course = r.0;
   is_run = r.1.0;
   posts = r.1.1.0;
@@ -88,14 +89,14 @@ runs_to t lines hosted turns post_tells disk_tells before after answer can meets
 }
 
 -- a run that a fault ended, and what its status says
-pub stops_by : (t : TopologyView) (lines : List Line) (hosted : List ℕ) (turns : ℕ) (post_tells disk_tells : Type 0) (before after : Around) (fault : RunFault) (status : ℕ)
-    (taken : Option (List ℕ)) → CanRun t lines hosted → MeetsServed t → FollowsRules t → OrdersServed t
-    → HasRun t lines hosted turns post_tells disk_tells before after (Err fault) → EndsBy t fault status after.taken taken
-    → StopsBy t lines hosted turns post_tells disk_tells before (around taken after.journal after.lanes) status
-stops_by t lines hosted turns post_tells disk_tells before after fault status taken can meets obeys orders r ends = record {
+pub stops_by : (voice : Voice) (t : TopologyView) (lines : List Line) (hosted : List ℕ) (turns : ℕ) (post_tells disk_tells : Type 0) (before after : Around) (fault : RunFault) (status : ℕ)
+    (taken : Option (List ℕ)) → CanRun voice t lines hosted → MeetsServed t → FollowsRules t → OrdersServed t
+    → HasRun voice t lines hosted turns post_tells disk_tells before after (Err fault) → EndsBy t fault status after.taken taken
+    → StopsBy voice t lines hosted turns post_tells disk_tells before (around taken after.journal after.lanes) status
+stops_by voice t lines hosted turns post_tells disk_tells before after fault status taken can meets obeys orders r ends = record {
   fault = fault;
   taken = after.taken;
-  run = runs_to t lines hosted turns post_tells disk_tells before after (Err fault) can meets obeys orders r;
+  run = runs_to voice t lines hosted turns post_tells disk_tells before after (Err fault) can meets obeys orders r;
   ends = ends;
 }
 

@@ -25,6 +25,10 @@ is_unaddressed t b = not (is_some (address_of t b))
 abbrev pub unaddressed_line : TopologyView → ℕ → List ℕ
 unaddressed_line t b = topology_line (BadAddress (name_at t.brokers b))
 
+-- the line of a topology with a client, where journals are written or audited
+abbrev pub clients_line : List ℕ
+clients_line = codes "audit 2 clients"
+
 -- What is named
 
 -- a word is the name of this broker

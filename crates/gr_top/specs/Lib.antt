@@ -3,8 +3,10 @@ pub mod Hosting
 pub mod Serving
 pub mod Submitter
 pub mod Publishing
+pub mod Auditing
 pub mod Answers
 pub mod Behind
 pub mod Joining
 pub mod Swept
 pub mod Top
+pub mod Status

@@ -1,5 +1,6 @@
 -- What `serve` is asked, and what a run of brokers comes to
-use Rattle.std.specs.Prelude.{◌≡◌, ◌⊎◌, ℕ, suc, ◌*◌, ◌<◌, true, List, [], length, Option, Result, Err, IsOk, IfSome, ⊤}
+use Rattle.std.specs.Prelude.{◌≡◌, ◌⊎◌, ℕ, suc, ◌*◌, ◌<◌, Bool, true, not, if◌then◌else◌, List, [], length}
+use Rattle.std.specs.Prelude.{Option, Result, Err, IsOk, IfSome, ⊤}
 use Rattle.gr_out.specs.declared.fault.RunFault.{RunFault}
 use Rattle.gr_out.specs.declared.fault.RunFault.TheVariants as run
 use Rattle.gr_out.specs.Bytes.{with_more}
@@ -22,33 +23,43 @@ use Rattle.gr_model.specs.Arrivals.{is_hosted, served}
 use Rattle.gr_model.specs.Orders.{orders_of, ordered_steps, with_orders}
 use Rattle.gr_model_theorems.specs.Lanes.{HoldsServedLanes}
 use Rattle.gr_model_theorems.specs.OrderedServed.{OrderedServedLanes, OneOrderServedLanes}
+use Rattle.gr_audit.specs.Audited.{has_clients}
 use Rattle.gr_node.specs.Of.{AreHosted, AreAddressed}
 use Rattle.gr_node.specs.Obeyed.{ObeysRules}
 use Rattle.gr_node.specs.Plan.{ours}
 use Rattle.gr_node.specs.Starting.{IsFirstDamaged}
 use Rattle.gr_node.specs.Served.{Course, planned, IsRunOf, Posts, Prints, KeepsLogs, IsHonestJournal}
+use Rattle.gr_trace.specs.Traced.{Traces}
 use Rattle.gr_top.specs.declared.hosting.Hosting.{Hosting}
 use Rattle.gr_top.specs.declared.hosting.Hosting.TheVariants as hosting
 use Rattle.gr_top.specs.declared.serving.Serving.{Serving}
 use Rattle.gr_top.specs.declared.serving.Serving.TheVariants.{TooManyBytes, TooManySteps, Refused, Run}
 use Rattle.gr_top.specs.declared.words.Task.{Task}
 use Rattle.gr_top.specs.declared.words.Task.TheVariants.{Serve}
+use Rattle.gr_top.specs.declared.voice.Voice.{Voice}
+use Rattle.gr_top.specs.declared.voice.Voice.TheVariants as voices
 use Rattle.gr_top.specs.Behind.{AreBehind}
-use Rattle.gr_top.specs.Hosting.{hosting_of}
+use Rattle.gr_top.specs.Hosting.{hosting_of, clients_line}
 
 -- What is asked
 
+-- a journal is written only where no publisher has a client
+abbrev pub is_unheard : Voice → TopologyView → Bool
+is_unheard voices.Report t = true
+is_unheard voices.Journal t = not (has_clients t)
+
 -- over a topology that was read with its steps
-abbrev pub serving_over : TopologyView → List Line → Hosting → Serving
-serving_over t lines (hosting.Refused line) = Refused line
-serving_over t lines (hosting.Hosted brokers) = Run t lines brokers
+abbrev pub serving_over : Voice → TopologyView → List Line → Hosting → Serving
+serving_over voice t lines (hosting.Refused line) = Refused line
+serving_over voice t lines (hosting.Hosted brokers) =
+    if is_unheard voice t then Run t lines brokers else Refused clients_line
 
 -- by the bytes of a source and the words that name brokers
-abbrev pub serving_of : List (List ℕ) → Asked → Serving
-serving_of words asked.TooManyBytes = TooManyBytes
-serving_of words asked.TooManySteps = TooManySteps
-serving_of words (asked.Refused line) = Refused line
-serving_of words (asked.Scenario t lines) = serving_over t lines (hosting_of t words)
+abbrev pub serving_of : Voice → List (List ℕ) → Asked → Serving
+serving_of voice words asked.TooManyBytes = TooManyBytes
+serving_of voice words asked.TooManySteps = TooManySteps
+serving_of voice words (asked.Refused line) = Refused line
+serving_of voice words (asked.Scenario t lines) = serving_over voice t lines (hosting_of t words)
 
 -- where there is to be a run, what holds of it: of the topology, its steps and the numbers of the brokers that serve
 abbrev pub OnRun : Serving → (TopologyView → List Line → List ℕ → Type 0) → Type 0
@@ -58,15 +69,18 @@ OnRun (Refused line) P = Unit {0}
 OnRun (Run t lines hosted) P = P t lines hosted
 
 -- the same of a task, with these bytes left in the source, where it is to serve
-abbrev pub IfRun : Task → Option (List ℕ) → (ℕ → TopologyView → List Line → List ℕ → Type 0) → Type 0
-IfRun (Serve turns words) left P = IfSome left (λ bytes. OnRun (serving_of words (asked_by bytes)) (P turns))
+abbrev pub IfRun : Task → Option (List ℕ) → (Voice → ℕ → TopologyView → List Line → List ℕ → Type 0) → Type 0
+IfRun (Serve voice turns words) left P =
+    IfSome left (λ bytes. OnRun (serving_of voice words (asked_by bytes)) (P voice turns))
 IfRun _ left P = Unit {0}
 
--- the steps and brokers are those of the topology, and each broker of it has an address
-pub record CanRun (t : TopologyView) (lines : List Line) (hosted : List ℕ) : Type 0 where
+-- the steps and brokers are those of the topology, each broker of it has an address, and a journal can be written
+-- where one is
+pub record CanRun (voice : Voice) (t : TopologyView) (lines : List Line) (hosted : List ℕ) : Type 0 where
   pub steps : AreStepsOf t lines
   pub brokers : AreHosted t hosted
   pub addressed : AreAddressed t
+  pub unheard : is_unheard voice t ≡ true
 
 -- What stands outside
 
@@ -95,16 +109,22 @@ pub record IsInOrder (t : TopologyView) (lines : List Line) (hosted : List ℕ) 
   -- and of two of these that want the same, at any two arrivals, one list begins with the other
   pub one_order : OneOrderServedLanes (net_of t) (totals_of t) c.logs lines (ours hosted c.came)
 
+-- what the sink took of a run: its report, or its journal
+abbrev pub Writes : Voice → TopologyView → List Line → List ℕ → Course → Option (List ℕ) → Option (List ℕ)
+    → Result ⊤ RunFault → Type 0
+Writes voices.Report t lines hosted c before after answer = Prints t hosted lines c before after answer
+Writes voices.Journal t lines hosted c before after answer = Traces t hosted lines c before after answer
+
 -- A run came to an answer. What was done of it is told by its course: the post has the journal of that, the sink took
 -- its lines and the lanes hold its logs. Where all brokers served, over old logs too, and the journal is honest, the
 -- headline holds, all that is reported is by the rules of the calls, and each list over all publishers is what it is to
 -- be
-pub record RunsTo (t : TopologyView) (lines : List Line) (hosted : List ℕ) (turns : ℕ) (post_tells disk_tells : Type 0)
-    (before after : Around) (answer : Result ⊤ RunFault) : Type 0 where
+pub record RunsTo (voice : Voice) (t : TopologyView) (lines : List Line) (hosted : List ℕ) (turns : ℕ)
+    (post_tells disk_tells : Type 0) (before after : Around) (answer : Result ⊤ RunFault) : Type 0 where
   pub course : Course
   pub is_run : IsRunOf t hosted lines turns course answer
   pub posts : post_tells → Posts t hosted lines course before.journal after.journal answer
-  pub prints : Prints t hosted lines course before.taken after.taken answer
+  pub prints : Writes voice t lines hosted course before.taken after.taken answer
   pub keeps : disk_tells → KeepsLogs t hosted lines course before.lanes after.lanes answer
   pub headline : hosted ≡ numbers (length t.brokers) → IsHonestJournal [] (planned t hosted lines course)
       → HoldsServedLanes (net_of t) course.logs lines (ours hosted course.came)
@@ -129,11 +149,11 @@ EndsBy t run.Memory status old new = (status ≡ 7) × (new ≡ old)
 EndsBy t run.Post status old new = (status ≡ 8) × (new ≡ old)
 
 -- A run was ended by a fault
-pub record StopsBy (t : TopologyView) (lines : List Line) (hosted : List ℕ) (turns : ℕ) (post_tells disk_tells : Type 0)
-    (before after : Around) (status : ℕ) : Type 0 where
+pub record StopsBy (voice : Voice) (t : TopologyView) (lines : List Line) (hosted : List ℕ) (turns : ℕ)
+    (post_tells disk_tells : Type 0) (before after : Around) (status : ℕ) : Type 0 where
   pub fault : RunFault
   pub taken : Option (List ℕ)  -- what the sink had taken by then
-  pub run : RunsTo t lines hosted turns post_tells disk_tells before
+  pub run : RunsTo voice t lines hosted turns post_tells disk_tells before
       (around taken after.journal after.lanes) (Err fault)
   pub ends : EndsBy t fault status taken after.taken
 

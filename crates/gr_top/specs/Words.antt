@@ -12,7 +12,9 @@ use Rattle.clap.specs.declared.parser.matches.ArgMatches.{ArgMatches}
 use Rattle.clap.specs.Words.{App, Rule, Text, Kinds, IsUnsignedIn, new_app, new_rule, with_rule, fault_of, found_of}
 use Rattle.clap.specs.Words.{matches_of, all_of, first_of, one_of, one_text}
 use Rattle.gr_top.specs.declared.words.Task.{Task}
-use Rattle.gr_top.specs.declared.words.Task.TheVariants.{Usage, Replay, Serve, Publish, Match, Cover, Soak}
+use Rattle.gr_top.specs.declared.words.Task.TheVariants.{Usage, Replay, Serve, Publish, Audit, Match, Cover, Soak}
+use Rattle.gr_top.specs.declared.voice.Voice.{Voice}
+use Rattle.gr_top.specs.declared.voice.Voice.TheVariants.{Report, Journal}
 
 -- the texts of words
 abbrev pub texts_of : List (Bor Text) → List Text
@@ -38,8 +40,9 @@ brokers_rule = record (new_rule (codes "brokers")) {
   range = Some (record { start_inclusive = 1; end_inclusive = usize_max });
 }
 
-abbrev pub serve_app : App
-serve_app = with_rule (with_rule (new_app (codes "serve")) turns_rule) brokers_rule
+-- that of `serve`, and that of `trace`
+abbrev pub serve_app : Text → App
+serve_app name = with_rule (with_rule (new_app name) turns_rule) brokers_rule
 
 -- one text
 abbrev pub publisher_rule : Rule
@@ -47,6 +50,9 @@ publisher_rule = record (new_rule (codes "publisher")) { required = true }
 
 abbrev pub publish_app : App
 publish_app = with_rule (with_rule (new_app (codes "publish")) publisher_rule) turns_rule
+
+abbrev pub audit_app : App
+audit_app = new_app (codes "audit")
 
 abbrev pub match_app : App
 match_app = new_app (codes "match")
@@ -73,9 +79,9 @@ number_said t = digits_value 10 (without_leading_plus t)
 abbrev pub turns_count : App → List Text → Option ℕ
 turns_count app words = option_map number_said (one_of (codes "turns") (matches_of app words))
 
--- the names of brokers that the words of `serve` give, and the name of a publisher that those of `publish` do
-abbrev pub broker_words : List Text → Option (List Text)
-broker_words words = all_of (codes "brokers") (matches_of serve_app words)
+-- the names of brokers that words give by such a definition, and the name of a publisher that those of `publish` do
+abbrev pub broker_words : App → List Text → Option (List Text)
+broker_words app words = all_of (codes "brokers") (matches_of app words)
 
 abbrev pub publisher_word : List Text → Option Text
 publisher_word words = first_of (codes "publisher") (matches_of publish_app words)
@@ -98,8 +104,10 @@ is_known [] = false
 is_known (name ∷ words) =
     bytes_eq name (codes "replay")
     || (bytes_eq name (codes "serve")
+    || (bytes_eq name (codes "trace")
     || (bytes_eq name (codes "publish")
-    || (bytes_eq name (codes "match") || (bytes_eq name (codes "cover") || bytes_eq name (codes "soak")))))
+    || (bytes_eq name (codes "audit")
+    || (bytes_eq name (codes "match") || (bytes_eq name (codes "cover") || bytes_eq name (codes "soak")))))))
 
 -- What is asked for
 
@@ -108,9 +116,10 @@ abbrev pub taken : Kinds → Task → Task
 taken [] task = task
 taken (k ∷ ks) task = Usage
 
--- the task of `serve`, and that of `publish`, by all words
-abbrev pub serve_by : List Text → Task
-serve_by words = Serve (unwrap_or (turns_count serve_app words) 0) (unwrap_or (broker_words words) [])
+-- the task of `serve` and of `trace`, and that of `publish`, by all words
+abbrev pub serve_by : Voice → Text → List Text → Task
+serve_by voice name words =
+    Serve voice (unwrap_or (turns_count (serve_app name) words) 0) (unwrap_or (broker_words (serve_app name) words) [])
 
 abbrev pub publish_by : List Text → Task
 publish_by words = Publish (unwrap_or (publisher_word words) []) (unwrap_or (turns_count publish_app words) 0)
@@ -119,8 +128,12 @@ publish_by words = Publish (unwrap_or (publisher_word words) []) (unwrap_or (tur
 abbrev pub task_named : Text → List Text → Task
 task_named name words =
     if bytes_eq name (codes "replay") then taken (fault_of replay_app words) Replay
-    else if bytes_eq name (codes "serve") then taken (fault_of serve_app words) (serve_by words)
+    else if bytes_eq name (codes "serve")
+    then taken (fault_of (serve_app (codes "serve")) words) (serve_by Report (codes "serve") words)
+    else if bytes_eq name (codes "trace")
+    then taken (fault_of (serve_app (codes "trace")) words) (serve_by Journal (codes "trace") words)
     else if bytes_eq name (codes "publish") then taken (fault_of publish_app words) (publish_by words)
+    else if bytes_eq name (codes "audit") then taken (fault_of audit_app words) Audit
     else if bytes_eq name (codes "match") then taken (fault_of match_app words) Match
     else if bytes_eq name (codes "cover") then taken (fault_of cover_app words) Cover
     else if bytes_eq name (codes "soak") then taken (fault_of soak_app words) (Soak (unwrap_or (soak_count words) 0))
@@ -137,8 +150,9 @@ task_by (name ∷ words) = task_named name (name ∷ words)
 abbrev pub IsInRange : Task → Type 0
 IsInRange Usage = Unit {0}
 IsInRange Replay = Unit {0}
-IsInRange (Serve turns brokers) = (1 ≤ turns) × (turns ≤ 1000000)
+IsInRange (Serve voice turns brokers) = (1 ≤ turns) × (turns ≤ 1000000)
 IsInRange (Publish publisher turns) = (1 ≤ turns) × (turns ≤ 1000000)
+IsInRange Audit = Unit {0}
 IsInRange Match = Unit {0}
 IsInRange Cover = Unit {0}
 IsInRange (Soak count) = (1 ≤ count) × (count ≤ 2000)
@@ -147,8 +161,9 @@ IsInRange (Soak count) = (1 ≤ count) × (count ≤ 2000)
 abbrev pub IsReading : Task → Type 0
 IsReading Usage = ⊥
 IsReading Replay = Unit {0}
-IsReading (Serve turns brokers) = Unit {0}
+IsReading (Serve voice turns brokers) = Unit {0}
 IsReading (Publish publisher turns) = Unit {0}
+IsReading Audit = Unit {0}
 IsReading Match = Unit {0}
 IsReading Cover = Unit {0}
 IsReading (Soak count) = ⊥
@@ -157,8 +172,9 @@ IsReading (Soak count) = ⊥
 abbrev pub IsServing : Task → Type 0
 IsServing Usage = ⊥
 IsServing Replay = ⊥
-IsServing (Serve turns brokers) = Unit {0}
+IsServing (Serve voice turns brokers) = Unit {0}
 IsServing (Publish publisher turns) = ⊥
+IsServing Audit = ⊥
 IsServing Match = ⊥
 IsServing Cover = ⊥
 IsServing (Soak count) = ⊥
@@ -167,8 +183,9 @@ IsServing (Soak count) = ⊥
 abbrev pub IsPosting : Task → Type 0
 IsPosting Usage = ⊥
 IsPosting Replay = ⊥
-IsPosting (Serve turns brokers) = Unit {0}
+IsPosting (Serve voice turns brokers) = Unit {0}
 IsPosting (Publish publisher turns) = Unit {0}
+IsPosting Audit = ⊥
 IsPosting Match = ⊥
 IsPosting Cover = ⊥
 IsPosting (Soak count) = ⊥

@@ -1,13 +1,13 @@
 //! The command `cover`.
 
-ghost use Rattle.std.specs.Prelude.{◌≡◌, ◌≢◌, ◌⊎◌};
+ghost use Rattle.std.specs.Prelude.{◌≡◌, ◌≢◌};
 ghost use Rattle.gr_out.specs.Bytes.{with_more};
-ghost use Rattle.gr_out.specs.Faults.{Rose};
 ghost use Rattle.gr_out.specs.Page.{TakesFront};
 ghost use Rattle.gr_cover_text.specs.Covers.{covered_text};
 ghost use Rattle.gr_cover_text.specs.Reading.{asked_by, IsTooLarge};
 ghost use Rattle.gr_top.specs.Answers.{cover_answer};
 ghost use Rattle.gr_top.specs.Top.{IsAnswered, IsWhole, IsCut};
+ghost use Rattle.gr_top.specs.Status.{SinkStatus, WholeOrCut, DoneOrCut};
 
 use crate::printing::{print, print_line};
 use gr_cover_text::{Asked, print_covers, read};
@@ -23,9 +23,8 @@ pub(crate) fn cover_bytes<K: Sink>(alloc: Global, bytes: &[u8], sink: &mut K) ->
         TakesFront (K.taken sink.old) (K.taken sink.new) (cover_answer (asked_by bytes.now)).text }
     ensures large_at_once { IsTooLarge (asked_by bytes.now) → result ≢ 7 }
     ensures known { result ≢ 1 }
-    ensures write_failed { result ≡ 4 → Rose (K.faults sink.old) (K.faults sink.new) }
-    ensures sink_same { result ≢ 4 → K.faults sink.new ≡ K.faults sink.old }
-    ensures complete { IsWhole result ⊎ IsCut result }
+    ensures sink { SinkStatus result (K.faults sink.old) (K.faults sink.new) }
+    ensures complete { WholeOrCut result }
 {
     match read(alloc, bytes) {
         Ok(Asked::TooManyBytes) => print(sink, b"too-large bytes\n", 9),
@@ -42,9 +41,8 @@ fn compare_filters<K: Sink>(alloc: Global, filters: &FilterList, sink: &mut K) -
         K.taken sink.new ≡ with_more (K.taken sink.old) (covered_text filters.now) }
     ensures front { IsCut result →
         TakesFront (K.taken sink.old) (K.taken sink.new) (covered_text filters.now) }
-    ensures write_failed { result ≡ 4 → Rose (K.faults sink.old) (K.faults sink.new) }
-    ensures sink_same { result ≢ 4 → K.faults sink.new ≡ K.faults sink.old }
-    ensures complete { (result ≡ 0) ⊎ IsCut result }
+    ensures sink { SinkStatus result (K.faults sink.old) (K.faults sink.new) }
+    ensures complete { DoneOrCut result }
 {
     match print_covers(alloc, filters, sink) {
         Ok(()) => 0,

@@ -4,7 +4,7 @@ ghost use Rattle.std.specs.Prelude.{◌≡◌, ◌<◌, length, find, IfOk, IfSo
 ghost use Rattle.std.specs.Option.{option_map};
 ghost use Rattle.gr_tree.specs.Walks.{numbers};
 ghost use Rattle.gr_top.specs.Words.{texts_of};
-ghost use Rattle.gr_top.specs.Hosting.{is_unknown, unknown_line, is_unaddressed, unaddressed_line, names_broker};
+ghost use Rattle.gr_top.specs.Hosting.{is_unknown, unknown_line, is_unaddressed, unaddressed_line, clients_line, names_broker};
 ghost use Rattle.gr_top.specs.Hosting.{is_named, named_brokers, hosting_of, IsReady};
 
 use gr_event::{Numbers, Text};
@@ -117,4 +117,11 @@ pub(crate) fn unaddressed_line(alloc: Global, topo: &Topology, b: u16) -> Result
 {
     let name = Text::from_slice(alloc, topo.broker_name(b).as_slice())?;
     line_of_topology(alloc, &TopoFault::BadAddress { name })
+}
+
+/// The line of a topology with a client, where journals are written or audited.
+pub(crate) fn clients_line(alloc: Global) -> Result<Text, AllocError>
+    ensures { IfOk result (λ line. line ≡ clients_line) }
+{
+    Text::from_slice(alloc, b"audit 2 clients")
 }

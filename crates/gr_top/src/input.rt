@@ -9,4 +9,6 @@ pub enum Input {
     MatchText,
     /// A match text of filters alone, which are compared.
     CoverText,
+    /// A scenario, and journals, which are audited.
+    Journals,
 }

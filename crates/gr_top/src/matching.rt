@@ -1,13 +1,13 @@
 //! The command `match`.
 
-ghost use Rattle.std.specs.Prelude.{◌≡◌, ◌≢◌, ◌⊎◌};
+ghost use Rattle.std.specs.Prelude.{◌≡◌, ◌≢◌};
 ghost use Rattle.gr_out.specs.Bytes.{with_more};
-ghost use Rattle.gr_out.specs.Faults.{Rose};
 ghost use Rattle.gr_out.specs.Page.{TakesFront};
 ghost use Rattle.gr_match_text.specs.Matching.{matched_text};
 ghost use Rattle.gr_match_text.specs.Reading.{asked_by, IsTooLarge};
 ghost use Rattle.gr_top.specs.Answers.{match_answer};
 ghost use Rattle.gr_top.specs.Top.{IsAnswered, IsWhole, IsCut};
+ghost use Rattle.gr_top.specs.Status.{SinkStatus, WholeOrCut, DoneOrCut};
 
 use crate::printing::{print, print_line};
 use gr_event::Event;
@@ -23,9 +23,8 @@ pub(crate) fn match_bytes<K: Sink>(alloc: Global, bytes: &[u8], sink: &mut K) ->
         TakesFront (K.taken sink.old) (K.taken sink.new) (match_answer (asked_by bytes.now)).text }
     ensures large_at_once { IsTooLarge (asked_by bytes.now) → result ≢ 7 }
     ensures known { result ≢ 1 }
-    ensures write_failed { result ≡ 4 → Rose (K.faults sink.old) (K.faults sink.new) }
-    ensures sink_same { result ≢ 4 → K.faults sink.new ≡ K.faults sink.old }
-    ensures complete { IsWhole result ⊎ IsCut result }
+    ensures sink { SinkStatus result (K.faults sink.old) (K.faults sink.new) }
+    ensures complete { WholeOrCut result }
 {
     match read(alloc, bytes) {
         Ok(Asked::TooManyBytes) => print(sink, b"too-large bytes\n", 9),
@@ -44,9 +43,8 @@ fn match_events<K: Sink>(alloc: Global, filters: &FilterList, events: &[Event], 
         K.taken sink.new ≡ with_more (K.taken sink.old) (matched_text filters.now events.now) }
     ensures front { IsCut result →
         TakesFront (K.taken sink.old) (K.taken sink.new) (matched_text filters.now events.now) }
-    ensures write_failed { result ≡ 4 → Rose (K.faults sink.old) (K.faults sink.new) }
-    ensures sink_same { result ≢ 4 → K.faults sink.new ≡ K.faults sink.old }
-    ensures complete { (result ≡ 0) ⊎ IsCut result }
+    ensures sink { SinkStatus result (K.faults sink.old) (K.faults sink.new) }
+    ensures complete { DoneOrCut result }
 {
     match print_matches(alloc, filters, events, sink) {
         Ok(()) => 0,

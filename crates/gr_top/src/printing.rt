@@ -2,9 +2,9 @@
 
 ghost use Rattle.std.specs.Prelude.{◌≡◌, ◌≢◌, ◌⊎◌, ◌++◌, [], ◌∷◌};
 ghost use Rattle.gr_out.specs.Bytes.{with_more};
-ghost use Rattle.gr_out.specs.Faults.{Rose};
 ghost use Rattle.gr_out.specs.Page.{TakesFront};
 ghost use Rattle.gr_top.specs.Top.{IsCut};
+ghost use Rattle.gr_top.specs.Status.{SinkStatus};
 
 use gr_event::Text;
 use gr_out::{Sink, write_all};
@@ -13,8 +13,7 @@ use gr_out::{Sink, write_all};
 pub(crate) fn print_line<K: Sink>(mut line: Text, sink: &mut K) -> u8
     ensures printed { result ≡ 2 → K.taken sink.new ≡ with_more (K.taken sink.old) (line ++ 10 ∷ []) }
     ensures front { IsCut result → TakesFront (K.taken sink.old) (K.taken sink.new) (line ++ 10 ∷ []) }
-    ensures write_failed { result ≡ 4 → Rose (K.faults sink.old) (K.faults sink.new) }
-    ensures sink_same { result ≢ 4 → K.faults sink.new ≡ K.faults sink.old }
+    ensures sink { SinkStatus result (K.faults sink.old) (K.faults sink.new) }
     ensures complete { (result ≡ 2) ⊎ IsCut result }
 {
     if line.push(b'\n').is_err() {
@@ -28,8 +27,7 @@ pub(crate) fn print<K: Sink>(sink: &mut K, bytes: &[u8], status: u8) -> u8
     requires { status ≢ 4 }
     ensures printed { result ≡ status → K.taken sink.new ≡ with_more (K.taken sink.old) bytes.now }
     ensures front { result ≡ 4 → TakesFront (K.taken sink.old) (K.taken sink.new) bytes.now }
-    ensures write_failed { result ≡ 4 → Rose (K.faults sink.old) (K.faults sink.new) }
-    ensures sink_same { result ≢ 4 → K.faults sink.new ≡ K.faults sink.old }
+    ensures sink { SinkStatus result (K.faults sink.old) (K.faults sink.new) }
     ensures complete { (result ≡ status) ⊎ (result ≡ 4) }
 {
     match write_all(sink, bytes) {

@@ -1,7 +1,6 @@
 //! The command `publish`.
 
 ghost use Rattle.std.specs.Prelude.{◌≡◌, ◌≢◌, ◌⊎◌, ◌≤◌, length, Ok, IfOk, IfErr, IfSome};
-ghost use Rattle.gr_out.specs.Faults.{Rose};
 ghost use Rattle.gr_out.specs.Page.{TakesFront};
 ghost use Rattle.gr_sched.specs.declared.step.TheConstants.{MAX_STEPS};
 ghost use Rattle.gr_scenario.specs.Scenario.{asked_by, IsTooLarge};
@@ -10,6 +9,7 @@ ghost use Rattle.gr_top.specs.Publishing.{publishing_over, publishing_of, OnPubl
 ghost use Rattle.gr_top.specs.Publishing.{StopsPublishing, NotPublished};
 ghost use Rattle.gr_top.specs.Answers.{publish_answer};
 ghost use Rattle.gr_top.specs.Top.{IsAnswered, IsWhole, IsCut};
+ghost use Rattle.gr_top.specs.Status.{SinkStatus, PostStatus};
 
 use crate::printing::{print, print_line};
 use crate::submitter::{Submitter, submitter_in};
@@ -70,10 +70,8 @@ pub(crate) fn publish_bytes<P: Post, K: Sink>(
     ensures untouched { (result ≡ 2) ⊎ (result ≡ 9) → post.new ≡ post.old }
     ensures known { result ≢ 1 }
     ensures large_at_once { IsTooLarge (asked_by bytes.now) → result ≢ 7 }
-    ensures post_failed { result ≡ 8 → Rose (P.faults post.old) (P.faults post.new) }
-    ensures post_same { result ≡ 0 → P.faults post.new ≡ P.faults post.old }
-    ensures write_failed { result ≡ 4 → Rose (K.faults sink.old) (K.faults sink.new) }
-    ensures sink_same { result ≢ 4 → K.faults sink.new ≡ K.faults sink.old }
+    ensures post { PostStatus result (P.faults post.old) (P.faults post.new) }
+    ensures sink { SinkStatus result (K.faults sink.old) (K.faults sink.new) }
     ensures complete { IsWhole result ⊎ (IsCut result ⊎ (result ≡ 8)) }
 {
     match publishing_in(alloc, bytes, word) {
@@ -106,10 +104,8 @@ fn publish_asked<P: Post, K: Sink>(
     ensures untouched { (result ≡ 2) ⊎ (result ≡ 9) → post.new ≡ post.old }
     ensures known { result ≢ 1 }
     ensures large { (publishing ≡ Publishing.TooManyBytes) ⊎ (publishing ≡ Publishing.TooManySteps) → result ≢ 7 }
-    ensures post_failed { result ≡ 8 → Rose (P.faults post.old) (P.faults post.new) }
-    ensures post_same { result ≡ 0 → P.faults post.new ≡ P.faults post.old }
-    ensures write_failed { result ≡ 4 → Rose (K.faults sink.old) (K.faults sink.new) }
-    ensures sink_same { result ≢ 4 → K.faults sink.new ≡ K.faults sink.old }
+    ensures post { PostStatus result (P.faults post.old) (P.faults post.new) }
+    ensures sink { SinkStatus result (K.faults sink.old) (K.faults sink.new) }
     ensures complete { IsWhole result ⊎ (IsCut result ⊎ (result ≡ 8)) }
 {
     match publishing {

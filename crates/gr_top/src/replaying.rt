@@ -1,8 +1,7 @@
 //! The command `replay`.
 
-ghost use Rattle.std.specs.Prelude.{◌≡◌, ◌≢◌, ◌⊎◌};
+ghost use Rattle.std.specs.Prelude.{◌≡◌, ◌≢◌};
 ghost use Rattle.gr_out.specs.Bytes.{with_more};
-ghost use Rattle.gr_out.specs.Faults.{Rose};
 ghost use Rattle.gr_out.specs.Page.{TakesFront};
 ghost use Rattle.gr_model.specs.NetOf.{net_of};
 ghost use Rattle.gr_model.specs.World.{report_of};
@@ -11,6 +10,7 @@ ghost use Rattle.gr_scenario.specs.Steps.{AreStepsOf};
 ghost use Rattle.gr_replay.specs.Replayed.{replayed_text};
 ghost use Rattle.gr_top.specs.Answers.{replay_answer};
 ghost use Rattle.gr_top.specs.Top.{MeetsHeadline, WasReplayed, AtMostCut, IsAnswered, IsWhole, IsCut};
+ghost use Rattle.gr_top.specs.Status.{SinkStatus, WholeOrCut, DoneOrCut};
 
 use crate::headline::every_report_meets_the_headline;
 use crate::printing::{print, print_line};
@@ -32,9 +32,8 @@ pub(crate) fn replay_bytes<K: Sink>(alloc: Global, bytes: &[u8], sink: &mut K) -
         TakesFront (K.taken sink.old) (K.taken sink.new) (replay_answer (asked_by bytes.now)).text }
     ensures large_at_once { IsTooLarge (asked_by bytes.now) → result ≢ 7 }
     ensures known { result ≢ 1 }
-    ensures write_failed { result ≡ 4 → Rose (K.faults sink.old) (K.faults sink.new) }
-    ensures sink_same { result ≢ 4 → K.faults sink.new ≡ K.faults sink.old }
-    ensures complete { IsWhole result ⊎ IsCut result }
+    ensures sink { SinkStatus result (K.faults sink.old) (K.faults sink.new) }
+    ensures complete { WholeOrCut result }
 {
     match read(alloc, bytes) {
         Ok(Asked::TooManyBytes) => print(sink, b"too-large bytes\n", 9),
@@ -56,9 +55,8 @@ fn carry_out<K: Sink>(alloc: Global, topology: Topology, steps: &Steps, sink: &m
     ensures printed { result ≡ 0 → K.taken sink.new ≡ with_more (K.taken sink.old) (replayed_text topology steps.now) }
     ensures front { IsCut result → TakesFront (K.taken sink.old) (K.taken sink.new) (replayed_text topology steps.now) }
     ensures meets { MeetsHeadline topology steps.now (report_of (net_of topology) steps.now) }
-    ensures write_failed { result ≡ 4 → Rose (K.faults sink.old) (K.faults sink.new) }
-    ensures sink_same { result ≢ 4 → K.faults sink.new ≡ K.faults sink.old }
-    ensures complete { (result ≡ 0) ⊎ IsCut result }
+    ensures sink { SinkStatus result (K.faults sink.old) (K.faults sink.new) }
+    ensures complete { DoneOrCut result }
 {
     every_report_meets_the_headline(&topology, steps);
     let mut disk = match MemDisk::new(alloc, &[]) {

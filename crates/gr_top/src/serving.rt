@@ -1,21 +1,23 @@
-//! The command `serve`.
+//! The commands `serve` and `trace`.
 
 ghost use Rattle.std.specs.Prelude.{◌≡◌, ◌≢◌, ◌⊎◌, Ok, IfOk, IfErr, IfSome};
-ghost use Rattle.gr_out.specs.Faults.{Rose};
 ghost use Rattle.gr_out.specs.Page.{TakesFront};
-ghost use Rattle.gr_publog.specs.Crash.{EitherRose};
 ghost use Rattle.gr_scenario.specs.Scenario.{asked_by, IsTooLarge};
 ghost use Rattle.gr_scenario.specs.Steps.{AreStepsOf};
 ghost use Rattle.gr_top.specs.Words.{texts_of};
 ghost use Rattle.gr_top.specs.Hosting.{hosting_of};
-ghost use Rattle.gr_top.specs.Serving.{serving_over, serving_of, OnRun, CanRun, around, RunsTo, StopsBy, NotBegun};
+ghost use Rattle.gr_top.specs.Serving.{is_unheard, serving_over, serving_of, OnRun, CanRun, around, RunsTo};
+ghost use Rattle.gr_top.specs.Serving.{StopsBy, NotBegun};
 ghost use Rattle.gr_top.specs.Serving.{IsDamaged, AllRead};
 ghost use Rattle.gr_top.specs.Answers.{answer_in};
 ghost use Rattle.gr_top.specs.Top.{IsAnswered, IsWhole, IsCut, IsStop};
+ghost use Rattle.gr_top.specs.Status.{SinkStatus, DiskStatus, PostStatus};
 
-use crate::hosting::{Hosting, hosted_in};
+use crate::hosting::{Hosting, clients_line, hosted_in};
 use crate::printing::{print, print_line};
 use crate::running::run;
+use crate::voice::Voice;
+use gr_audit::has_clients;
 use gr_event::{Numbers, Text};
 use gr_out::{Disk, Sink};
 use gr_pace::Paced;
@@ -48,49 +50,46 @@ pub enum Serving {
 pub(crate) fn serve_bytes<D: Disk, P: Paced, K: Sink>(
     alloc: Global,
     bytes: &[u8],
+    voice: Voice,
     words: &[&str],
     turns: u64,
     disk: &mut D,
     post: &mut P,
     sink: &mut K,
 ) -> u8
-    ensures answered { IsWhole result → IfSome (answer_in (serving_of (texts_of words.now) (asked_by bytes.now)))
+    ensures answered { IsWhole result → IfSome (answer_in (serving_of voice (texts_of words.now) (asked_by bytes.now)))
         (IsAnswered result (K.taken sink.old) (K.taken sink.new)) }
-    ensures front { IsCut result → IfSome (answer_in (serving_of (texts_of words.now) (asked_by bytes.now)))
+    ensures front { IsCut result → IfSome (answer_in (serving_of voice (texts_of words.now) (asked_by bytes.now)))
         (λ answer. TakesFront (K.taken sink.old) (K.taken sink.new) answer.text) }
-    ensures served { result ≡ 0 → OnRun (serving_of (texts_of words.now) (asked_by bytes.now))
-        (λ t lines hosted. RunsTo t lines hosted turns P.tells D.tells
+    ensures served { result ≡ 0 → OnRun (serving_of voice (texts_of words.now) (asked_by bytes.now))
+        (λ t lines hosted. RunsTo voice t lines hosted turns P.tells D.tells
         (around (K.taken sink.old) (P.journal post.old) (D.lane_of disk.old))
         (around (K.taken sink.new) (P.journal post.new) (D.lane_of disk.new)) (Ok tt)) }
-    ensures stopped { IsCut result ⊎ IsStop result → OnRun (serving_of (texts_of words.now) (asked_by bytes.now))
+    ensures stopped { IsCut result ⊎ IsStop result → OnRun (serving_of voice (texts_of words.now) (asked_by bytes.now))
         (λ t lines hosted. NotBegun
         (around (K.taken sink.old) (P.journal post.old) (D.lane_of disk.old))
         (around (K.taken sink.new) (P.journal post.new) (D.lane_of disk.new)) result
-        ⊎ StopsBy t lines hosted turns P.tells D.tells
+        ⊎ StopsBy voice t lines hosted turns P.tells D.tells
         (around (K.taken sink.old) (P.journal post.old) (D.lane_of disk.old))
         (around (K.taken sink.new) (P.journal post.new) (D.lane_of disk.new)) result) }
-    ensures damaged { result ≡ 6 → D.tells → OnRun (serving_of (texts_of words.now) (asked_by bytes.now))
+    ensures damaged { result ≡ 6 → D.tells → OnRun (serving_of voice (texts_of words.now) (asked_by bytes.now))
         (λ t lines hosted. IsDamaged t hosted (D.lane_of disk.old)) }
-    ensures undamaged { result ≡ 0 → D.tells → OnRun (serving_of (texts_of words.now) (asked_by bytes.now))
+    ensures undamaged { result ≡ 0 → D.tells → OnRun (serving_of voice (texts_of words.now) (asked_by bytes.now))
         (λ t lines hosted. AllRead t hosted (D.lane_of disk.old)) }
-    ensures runs { IsWhole result → OnRun (serving_of (texts_of words.now) (asked_by bytes.now))
+    ensures runs { IsWhole result → OnRun (serving_of voice (texts_of words.now) (asked_by bytes.now))
         (λ t lines hosted. result ≡ 0) }
-    ensures refuses { IsStop result → IfSome (answer_in (serving_of (texts_of words.now) (asked_by bytes.now)))
+    ensures refuses { IsStop result → IfSome (answer_in (serving_of voice (texts_of words.now) (asked_by bytes.now)))
         (λ answer. ⊥) }
     ensures untouched { (result ≡ 2) ⊎ (result ≡ 9) → (disk.new ≡ disk.old) × (post.new ≡ post.old) }
     ensures known { result ≢ 1 }
     ensures large_at_once { IsTooLarge (asked_by bytes.now) → result ≢ 7 }
-    ensures disk_failed { result ≡ 5 →
-        EitherRose (D.faults disk.old) (D.faults disk.new) (D.stops disk.old) (D.stops disk.new) }
-    ensures post_failed { result ≡ 8 → Rose (P.faults post.old) (P.faults post.new) }
-    ensures disk_same { result ≡ 0 → (D.faults disk.new ≡ D.faults disk.old) × (D.stops disk.new ≡ D.stops disk.old) }
-    ensures post_same { result ≡ 0 → P.faults post.new ≡ P.faults post.old }
-    ensures write_failed { result ≡ 4 → Rose (K.faults sink.old) (K.faults sink.new) }
-    ensures sink_same { result ≢ 4 → K.faults sink.new ≡ K.faults sink.old }
+    ensures disk { DiskStatus result (D.faults disk.old) (D.stops disk.old) (D.faults disk.new) (D.stops disk.new) }
+    ensures post { PostStatus result (P.faults post.old) (P.faults post.new) }
+    ensures sink { SinkStatus result (K.faults sink.old) (K.faults sink.new) }
     ensures complete { IsWhole result ⊎ (IsCut result ⊎ IsStop result) }
 {
-    match serving_in(alloc, bytes, words) {
-        Ok(serving) => serve_asked(alloc, serving, turns, disk, post, sink),
+    match serving_in(alloc, bytes, voice, words) {
+        Ok(serving) => serve_asked(alloc, serving, voice, turns, disk, post, sink),
         Err(_) => 7,
     }
 }
@@ -99,21 +98,22 @@ pub(crate) fn serve_bytes<D: Disk, P: Paced, K: Sink>(
 fn serve_asked<D: Disk, P: Paced, K: Sink>(
     alloc: Global,
     serving: Serving,
+    voice: Voice,
     turns: u64,
     disk: &mut D,
     post: &mut P,
     sink: &mut K,
 ) -> u8
-    requires { OnRun serving CanRun }
+    requires { OnRun serving (CanRun voice) }
     ensures answered { IsWhole result → IfSome (answer_in serving)
         (IsAnswered result (K.taken sink.old) (K.taken sink.new)) }
     ensures front { IsCut result → IfSome (answer_in serving)
         (λ answer. TakesFront (K.taken sink.old) (K.taken sink.new) answer.text) }
-    ensures served { result ≡ 0 → OnRun serving (λ t lines hosted. RunsTo t lines hosted turns P.tells D.tells
+    ensures served { result ≡ 0 → OnRun serving (λ t lines hosted. RunsTo voice t lines hosted turns P.tells D.tells
         (around (K.taken sink.old) (P.journal post.old) (D.lane_of disk.old))
         (around (K.taken sink.new) (P.journal post.new) (D.lane_of disk.new)) (Ok tt)) }
     ensures stopped { IsCut result ⊎ IsStop result →
-        OnRun serving (λ t lines hosted. StopsBy t lines hosted turns P.tells D.tells
+        OnRun serving (λ t lines hosted. StopsBy voice t lines hosted turns P.tells D.tells
         (around (K.taken sink.old) (P.journal post.old) (D.lane_of disk.old))
         (around (K.taken sink.new) (P.journal post.new) (D.lane_of disk.new)) result) }
     ensures damaged { result ≡ 6 → D.tells →
@@ -125,13 +125,9 @@ fn serve_asked<D: Disk, P: Paced, K: Sink>(
     ensures untouched { (result ≡ 2) ⊎ (result ≡ 9) → (disk.new ≡ disk.old) × (post.new ≡ post.old) }
     ensures known { result ≢ 1 }
     ensures large { (serving ≡ Serving.TooManyBytes) ⊎ (serving ≡ Serving.TooManySteps) → result ≢ 7 }
-    ensures disk_failed { result ≡ 5 →
-        EitherRose (D.faults disk.old) (D.faults disk.new) (D.stops disk.old) (D.stops disk.new) }
-    ensures post_failed { result ≡ 8 → Rose (P.faults post.old) (P.faults post.new) }
-    ensures disk_same { result ≡ 0 → (D.faults disk.new ≡ D.faults disk.old) × (D.stops disk.new ≡ D.stops disk.old) }
-    ensures post_same { result ≡ 0 → P.faults post.new ≡ P.faults post.old }
-    ensures write_failed { result ≡ 4 → Rose (K.faults sink.old) (K.faults sink.new) }
-    ensures sink_same { result ≢ 4 → K.faults sink.new ≡ K.faults sink.old }
+    ensures disk { DiskStatus result (D.faults disk.old) (D.stops disk.old) (D.faults disk.new) (D.stops disk.new) }
+    ensures post { PostStatus result (P.faults post.old) (P.faults post.new) }
+    ensures sink { SinkStatus result (K.faults sink.old) (K.faults sink.new) }
     ensures complete { IsWhole result ⊎ (IsCut result ⊎ IsStop result) }
 {
     match serving {
@@ -144,6 +140,7 @@ fn serve_asked<D: Disk, P: Paced, K: Sink>(
             brokers,
         } => run(
             alloc,
+            voice,
             &topology,
             &steps,
             brokers.as_slice(),
@@ -156,38 +153,62 @@ fn serve_asked<D: Disk, P: Paced, K: Sink>(
 }
 
 /// Reads what is asked: the scenario first, and then which of its brokers serve.
-pub(crate) fn serving_in(alloc: Global, bytes: &[u8], words: &[&str]) -> Result<Serving, AllocError>
-    ensures serving { IfOk result (λ s. s ≡ serving_of (texts_of words.now) (asked_by bytes.now)) }
-    ensures ready { IfOk result (λ s. OnRun s CanRun) }
+pub(crate) fn serving_in(
+    alloc: Global,
+    bytes: &[u8],
+    voice: Voice,
+    words: &[&str],
+) -> Result<Serving, AllocError>
+    ensures serving { IfOk result (λ s. s ≡ serving_of voice (texts_of words.now) (asked_by bytes.now)) }
+    ensures ready { IfOk result (λ s. OnRun s (CanRun voice)) }
     ensures large_at_once { IfErr result (λ refused. IsTooLarge (asked_by bytes.now) → ⊥) }
 {
     match read(alloc, bytes) {
         Ok(Asked::TooManyBytes) => Ok(Serving::TooManyBytes),
         Ok(Asked::TooManySteps) => Ok(Serving::TooManySteps),
         Ok(Asked::Refused(line)) => Ok(Serving::Refused(line)),
-        Ok(Asked::Scenario { topology, steps }) => serving_over(alloc, topology, steps, words),
+        Ok(Asked::Scenario { topology, steps }) => serving_over(
+            alloc, voice, topology, steps, words,
+        ),
         Err(_) => Err(AllocError),
+    }
+}
+
+/// Whether brokers of a topology can write this: a journal only where no publisher has a client.
+fn is_unheard(voice: Voice, topo: &Topology) -> bool
+    ensures { result ≡ is_unheard voice topo.now }
+{
+    match voice {
+        Voice::Report => true,
+        Voice::Journal => !has_clients(topo),
     }
 }
 
 /// What is asked of a topology that was read with its steps.
 fn serving_over(
     alloc: Global,
+    voice: Voice,
     topology: Topology,
     steps: Steps,
     words: &[&str],
 ) -> Result<Serving, AllocError>
     requires { AreStepsOf topology steps }
-    ensures serving { IfOk result (λ s. s ≡ serving_over topology steps (hosting_of topology (texts_of words.now))) }
-    ensures ready { IfOk result (λ s. OnRun s CanRun) }
+    ensures serving { IfOk result (λ s.
+        s ≡ serving_over voice topology steps (hosting_of topology (texts_of words.now))) }
+    ensures ready { IfOk result (λ s. OnRun s (CanRun voice)) }
 {
     match hosted_in(alloc, &topology, words) {
         Ok(Hosting::Refused(line)) => Ok(Serving::Refused(line)),
-        Ok(Hosting::Hosted(brokers)) => Ok(Serving::Run {
-            topology,
-            steps,
-            brokers,
-        }),
+        Ok(Hosting::Hosted(brokers)) => {
+            if !is_unheard(voice, &topology) {
+                return Ok(Serving::Refused(clients_line(alloc)?));
+            }
+            Ok(Serving::Run {
+                topology,
+                steps,
+                brokers,
+            })
+        }
         Err(_) => Err(AllocError),
     }
 }

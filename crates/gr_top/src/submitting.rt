@@ -1,9 +1,9 @@
 //! The client of a publisher submits.
 
-ghost use Rattle.std.specs.Prelude.{◌≡◌, ◌≢◌, ◌⊎◌, Ok};
-ghost use Rattle.gr_out.specs.Faults.{Rose};
+ghost use Rattle.std.specs.Prelude.{◌≡◌, ◌⊎◌, Ok};
 ghost use Rattle.gr_top.specs.Publishing.{CanPublish, outside, PublishesTo, StopsPublishing};
 ghost use Rattle.gr_top.specs.Top.{IsCut};
+ghost use Rattle.gr_top.specs.Status.{SinkStatus, PostStatus};
 
 use gr_client::run;
 use gr_out::{Post, RunFault, Sink};
@@ -26,10 +26,8 @@ pub(crate) fn submit<P: Post, K: Sink>(
         (outside (K.taken sink.old) (P.journal post.old)) (outside (K.taken sink.new) (P.journal post.new)) (Ok tt) }
     ensures stopped { IsCut result ⊎ (result ≡ 8) → StopsPublishing topo.now steps.now publisher turns P.tells
         (outside (K.taken sink.old) (P.journal post.old)) (outside (K.taken sink.new) (P.journal post.new)) result }
-    ensures post_failed { result ≡ 8 → Rose (P.faults post.old) (P.faults post.new) }
-    ensures post_same { result ≡ 0 → P.faults post.new ≡ P.faults post.old }
-    ensures write_failed { result ≡ 4 → Rose (K.faults sink.old) (K.faults sink.new) }
-    ensures sink_same { result ≢ 4 → K.faults sink.new ≡ K.faults sink.old }
+    ensures post { PostStatus result (P.faults post.old) (P.faults post.new) }
+    ensures sink { SinkStatus result (K.faults sink.old) (K.faults sink.new) }
     ensures complete { (result ≡ 0) ⊎ (IsCut result ⊎ (result ≡ 8)) }
 {
     match run(alloc, topo, steps, publisher, turns, post, sink) {

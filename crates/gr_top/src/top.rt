@@ -11,9 +11,12 @@ ghost use Rattle.gr_top.specs.Serving.{IfRun, around, RunsTo, StopsBy, NotBegun,
 ghost use Rattle.gr_top.specs.Serving.{AllRead};
 ghost use Rattle.gr_top.specs.Publishing.{IfPublish, outside, PublishesTo, StopsPublishing};
 ghost use Rattle.gr_top.specs.Publishing.{NotPublished};
+ghost use Rattle.gr_top.specs.Auditing.{WasAudited};
 ghost use Rattle.gr_top.specs.Answers.{answer_of, answer_to};
 ghost use Rattle.gr_top.specs.Top.{WasReplayed, AtMostCut, IsAnswered, IsWhole, IsCut, IsStop};
+ghost use Rattle.gr_top.specs.Status.{SourceStatus, SinkStatus, DiskStatus, PostStatus, WholeOrCut};
 
+use crate::auditing::audit_bytes;
 use crate::broker_words::BrokerWords;
 use crate::covering::cover_bytes;
 use crate::input::Input;
@@ -23,6 +26,7 @@ use crate::publishing::publish_bytes;
 use crate::replaying::replay_bytes;
 use crate::serving::serve_bytes;
 use crate::soaking::print_soak;
+use crate::voice::Voice;
 use crate::word::Word;
 use crate::words::{Task, task_of};
 use gr_out::{Disk, Post, ReadFault, Sink, Source, read_all};
@@ -32,7 +36,8 @@ use std::alloc::Global;
 
 /// What is printed for words that are no command.
 const USAGE: &[u8] =
-    b"usage: gryphon replay | serve TURNS BROKER... | publish P TURNS | match | cover | soak N\n";
+    b"usage: gryphon replay | serve TURNS BROKER... | trace TURNS BROKER... | publish P TURNS | \
+    audit | match | cover | soak N\n";
 
 /// Carries out the command that the words name, over a source and a sink; brokers that serve have a disk and a post,
 /// and a client that submits has the post. Gives the exit status.
@@ -66,23 +71,27 @@ pub fn gryphon<S: Source, K: Sink, D: Disk, P: Paced>(
     ensures read_to_its_end { IsReading (task_by (texts_of words.now)) → (result ≡ 0) ⊎ (result ≡ 2) →
         IsAtEnd (S.left source.new) }
 
-    // Of brokers that serve: a run that was carried out, with its headline, and one that was stopped; and that the
-    // lanes held logs, or which was the first that did not.
+    // Of journals that were audited: where the verdict is yes, they are one honest run.
+    ensures audited { result ≡ 0 → task_by (texts_of words.now) ≡ Task.Audit →
+        IfSome (S.left source.old) (λ bytes. WasAudited (K.taken sink.old) (K.taken sink.new) bytes) }
+
+    // Of brokers that serve, and write their report or their journal: a run that was carried out, with its headline
+    // of a report, and one that was stopped; and that the lanes held logs, or which was the first that did not.
     ensures served { result ≡ 0 → IfRun (task_by (texts_of words.now)) (S.left source.old)
-        (λ turns t lines hosted. RunsTo t lines hosted turns P.tells D.tells
+        (λ voice turns t lines hosted. RunsTo voice t lines hosted turns P.tells D.tells
         (around (K.taken sink.old) (P.journal post.old) (D.lane_of disk.old))
         (around (K.taken sink.new) (P.journal post.new) (D.lane_of disk.new)) (Ok tt)) }
     ensures stopped { IsCut result ⊎ IsStop result → IfRun (task_by (texts_of words.now)) (S.left source.old)
-        (λ turns t lines hosted. NotBegun
+        (λ voice turns t lines hosted. NotBegun
         (around (K.taken sink.old) (P.journal post.old) (D.lane_of disk.old))
         (around (K.taken sink.new) (P.journal post.new) (D.lane_of disk.new)) result
-        ⊎ StopsBy t lines hosted turns P.tells D.tells
+        ⊎ StopsBy voice t lines hosted turns P.tells D.tells
         (around (K.taken sink.old) (P.journal post.old) (D.lane_of disk.old))
         (around (K.taken sink.new) (P.journal post.new) (D.lane_of disk.new)) result) }
     ensures damaged { result ≡ 6 → D.tells → IfRun (task_by (texts_of words.now)) (S.left source.old)
-        (λ turns t lines hosted. IsDamaged t hosted (D.lane_of disk.old)) }
+        (λ voice turns t lines hosted. IsDamaged t hosted (D.lane_of disk.old)) }
     ensures undamaged { result ≡ 0 → D.tells → IfRun (task_by (texts_of words.now)) (S.left source.old)
-        (λ turns t lines hosted. AllRead t hosted (D.lane_of disk.old)) }
+        (λ voice turns t lines hosted. AllRead t hosted (D.lane_of disk.old)) }
 
     // Of a client that submits: a run that was carried out, and one that was stopped.
     ensures published { result ≡ 0 → IfPublish (task_by (texts_of words.now)) (S.left source.old)
@@ -118,18 +127,13 @@ pub fn gryphon<S: Source, K: Sink, D: Disk, P: Paced>(
     ensures refuses { IsStop result → IfSome (answer_to (task_by (texts_of words.now)) (S.left source.old))
         (λ answer. ⊥) }
     ensures runs { IsWhole result → IfRun (task_by (texts_of words.now)) (S.left source.old)
-        (λ turns t lines hosted. result ≡ 0) }
+        (λ voice turns t lines hosted. result ≡ 0) }
     ensures publish_runs { IsWhole result → IfPublish (task_by (texts_of words.now)) (S.left source.old)
         (λ turns t lines p. result ≡ 0) }
-    ensures read_failed { result ≡ 3 → Rose (S.faults source.old) (S.faults source.new) }
-    ensures write_failed { result ≡ 4 → Rose (K.faults sink.old) (K.faults sink.new) }
-    ensures disk_failed { result ≡ 5 →
-        EitherRose (D.faults disk.old) (D.faults disk.new) (D.stops disk.old) (D.stops disk.new) }
-    ensures post_failed { result ≡ 8 → Rose (P.faults post.old) (P.faults post.new) }
-    ensures source_same { result ≢ 3 → S.faults source.new ≡ S.faults source.old }
-    ensures sink_same { result ≢ 4 → K.faults sink.new ≡ K.faults sink.old }
-    ensures disk_same { result ≡ 0 → (D.faults disk.new ≡ D.faults disk.old) × (D.stops disk.new ≡ D.stops disk.old) }
-    ensures post_same { result ≡ 0 → P.faults post.new ≡ P.faults post.old }
+    ensures source { SourceStatus result (S.faults source.old) (S.faults source.new) }
+    ensures sink { SinkStatus result (K.faults sink.old) (K.faults sink.new) }
+    ensures disk { DiskStatus result (D.faults disk.old) (D.stops disk.old) (D.faults disk.new) (D.stops disk.new) }
+    ensures post { PostStatus result (P.faults post.old) (P.faults post.new) }
     ensures complete { (result ≡ 3) ⊎ (IsWhole result ⊎ (IsCut result ⊎ IsStop result)) }
     // Where no fault was counted, the status is that of the answer, but for want of memory; that of brokers that serve
     // is 0, but for lanes that hold no log and want of memory; and that of a client is 0, but for want of memory.
@@ -142,7 +146,7 @@ pub fn gryphon<S: Source, K: Sink, D: Disk, P: Paced>(
         → (EitherRose (D.faults disk.old) (D.faults disk.new) (D.stops disk.old) (D.stops disk.new) → ⊥)
         → (Rose (P.faults post.old) (P.faults post.new) → ⊥)
         → IfRun (task_by (texts_of words.now)) (S.left source.old)
-        (λ turns t lines hosted. (result ≡ 0) ⊎ ((result ≡ 6) ⊎ (result ≡ 7))) }
+        (λ voice turns t lines hosted. (result ≡ 0) ⊎ ((result ≡ 6) ⊎ (result ≡ 7))) }
     ensures completeness_of_publishing { (Rose (S.faults source.old) (S.faults source.new) → ⊥)
         → (Rose (K.faults sink.old) (K.faults sink.new) → ⊥)
         → (Rose (P.faults post.old) (P.faults post.new) → ⊥)
@@ -152,12 +156,17 @@ pub fn gryphon<S: Source, K: Sink, D: Disk, P: Paced>(
     match task_of(alloc, words) {
         Ok(Task::Usage) => print(sink, USAGE, 1),
         Ok(Task::Replay) => from_source(alloc, Input::Scenario, source, sink),
-        Ok(Task::Serve { turns, brokers }) => {
-            serve_source(alloc, &brokers, turns, source, sink, disk, post)
-        }
+        Ok(
+            Task::Serve {
+                voice,
+                turns,
+                brokers,
+            },
+        ) => serve_source(alloc, voice, &brokers, turns, source, sink, disk, post),
         Ok(Task::Publish { publisher, turns }) => {
             publish_source(alloc, &publisher, turns, source, sink, post)
         }
+        Ok(Task::Audit) => from_source(alloc, Input::Journals, source, sink),
         Ok(Task::Match) => from_source(alloc, Input::MatchText, source, sink),
         Ok(Task::Cover) => from_source(alloc, Input::CoverText, source, sink),
         Ok(Task::Soak { count }) => print_soak(alloc, count, sink),
@@ -165,10 +174,11 @@ pub fn gryphon<S: Source, K: Sink, D: Disk, P: Paced>(
     }
 }
 
-/// Reads the bytes of a source, and has the named brokers of the scenario that they are serve for so many turns. Gives
-/// the status.
+/// Reads the bytes of a source, and has the named brokers of the scenario that they are serve for so many turns, and
+/// write their report or their journal. Gives the status.
 fn serve_source<S: Source, K: Sink, D: Disk, P: Paced>(
     alloc: Global,
+    voice: Voice,
     words: &BrokerWords<'_>,
     turns: u64,
     source: &mut S,
@@ -177,42 +187,37 @@ fn serve_source<S: Source, K: Sink, D: Disk, P: Paced>(
     post: &mut P,
 ) -> u8
     ensures read_to_its_end { (result ≡ 0) ⊎ (result ≡ 2) → IsAtEnd (S.left source.new) }
-    ensures answered { IsWhole result → IfSome (answer_to (Task.Serve turns words.now) (S.left source.old))
+    ensures answered { IsWhole result → IfSome (answer_to (Task.Serve voice turns words.now) (S.left source.old))
         (IsAnswered result (K.taken sink.old) (K.taken sink.new)) }
-    ensures front { IsCut result → IfSome (answer_to (Task.Serve turns words.now) (S.left source.old))
+    ensures front { IsCut result → IfSome (answer_to (Task.Serve voice turns words.now) (S.left source.old))
         (λ answer. TakesFront (K.taken sink.old) (K.taken sink.new) answer.text) }
     ensures nothing { result ≡ 3 → K.taken sink.new ≡ K.taken sink.old }
-    ensures served { result ≡ 0 → IfRun (Task.Serve turns words.now) (S.left source.old)
-        (λ turns t lines hosted. RunsTo t lines hosted turns P.tells D.tells
+    ensures served { result ≡ 0 → IfRun (Task.Serve voice turns words.now) (S.left source.old)
+        (λ voice turns t lines hosted. RunsTo voice t lines hosted turns P.tells D.tells
         (around (K.taken sink.old) (P.journal post.old) (D.lane_of disk.old))
         (around (K.taken sink.new) (P.journal post.new) (D.lane_of disk.new)) (Ok tt)) }
-    ensures stopped { IsCut result ⊎ IsStop result → IfRun (Task.Serve turns words.now) (S.left source.old)
-        (λ turns t lines hosted. NotBegun
+    ensures stopped { IsCut result ⊎ IsStop result → IfRun (Task.Serve voice turns words.now) (S.left source.old)
+        (λ voice turns t lines hosted. NotBegun
         (around (K.taken sink.old) (P.journal post.old) (D.lane_of disk.old))
         (around (K.taken sink.new) (P.journal post.new) (D.lane_of disk.new)) result
-        ⊎ StopsBy t lines hosted turns P.tells D.tells
+        ⊎ StopsBy voice t lines hosted turns P.tells D.tells
         (around (K.taken sink.old) (P.journal post.old) (D.lane_of disk.old))
         (around (K.taken sink.new) (P.journal post.new) (D.lane_of disk.new)) result) }
-    ensures damaged { result ≡ 6 → D.tells → IfRun (Task.Serve turns words.now) (S.left source.old)
-        (λ turns t lines hosted. IsDamaged t hosted (D.lane_of disk.old)) }
-    ensures undamaged { result ≡ 0 → D.tells → IfRun (Task.Serve turns words.now) (S.left source.old)
-        (λ turns t lines hosted. AllRead t hosted (D.lane_of disk.old)) }
-    ensures runs { IsWhole result → IfRun (Task.Serve turns words.now) (S.left source.old)
-        (λ turns t lines hosted. result ≡ 0) }
-    ensures refuses { IsStop result → IfSome (answer_to (Task.Serve turns words.now) (S.left source.old))
+    ensures damaged { result ≡ 6 → D.tells → IfRun (Task.Serve voice turns words.now) (S.left source.old)
+        (λ voice turns t lines hosted. IsDamaged t hosted (D.lane_of disk.old)) }
+    ensures undamaged { result ≡ 0 → D.tells → IfRun (Task.Serve voice turns words.now) (S.left source.old)
+        (λ voice turns t lines hosted. AllRead t hosted (D.lane_of disk.old)) }
+    ensures runs { IsWhole result → IfRun (Task.Serve voice turns words.now) (S.left source.old)
+        (λ voice turns t lines hosted. result ≡ 0) }
+    ensures refuses { IsStop result → IfSome (answer_to (Task.Serve voice turns words.now) (S.left source.old))
         (λ answer. ⊥) }
     ensures untouched { (result ≡ 2) ⊎ ((result ≡ 3) ⊎ (result ≡ 9))
         → (disk.new ≡ disk.old) × (post.new ≡ post.old) }
     ensures known { result ≢ 1 }
-    ensures read_failed { result ≡ 3 → Rose (S.faults source.old) (S.faults source.new) }
-    ensures write_failed { result ≡ 4 → Rose (K.faults sink.old) (K.faults sink.new) }
-    ensures disk_failed { result ≡ 5 →
-        EitherRose (D.faults disk.old) (D.faults disk.new) (D.stops disk.old) (D.stops disk.new) }
-    ensures post_failed { result ≡ 8 → Rose (P.faults post.old) (P.faults post.new) }
-    ensures source_same { result ≢ 3 → S.faults source.new ≡ S.faults source.old }
-    ensures sink_same { result ≢ 4 → K.faults sink.new ≡ K.faults sink.old }
-    ensures disk_same { result ≡ 0 → (D.faults disk.new ≡ D.faults disk.old) × (D.stops disk.new ≡ D.stops disk.old) }
-    ensures post_same { result ≡ 0 → P.faults post.new ≡ P.faults post.old }
+    ensures source { SourceStatus result (S.faults source.old) (S.faults source.new) }
+    ensures sink { SinkStatus result (K.faults sink.old) (K.faults sink.new) }
+    ensures disk { DiskStatus result (D.faults disk.old) (D.stops disk.old) (D.faults disk.new) (D.stops disk.new) }
+    ensures post { PostStatus result (P.faults post.old) (P.faults post.new) }
     ensures complete { (result ≡ 3) ⊎ (IsWhole result ⊎ (IsCut result ⊎ IsStop result)) }
 {
     let bytes = match read_all(alloc, source, MAX_INPUT_BYTES + 1) {
@@ -223,6 +228,7 @@ fn serve_source<S: Source, K: Sink, D: Disk, P: Paced>(
     serve_bytes(
         alloc,
         bytes.as_slice(),
+        voice,
         words.as_slice(),
         turns,
         disk,
@@ -262,12 +268,9 @@ fn publish_source<S: Source, K: Sink, P: Post>(
     ensures untouched { (result ≡ 2) ⊎ ((result ≡ 3) ⊎ (result ≡ 9)) → post.new ≡ post.old }
     ensures known { result ≢ 1 }
     ensures diskless { (result ≢ 5) × (result ≢ 6) }
-    ensures read_failed { result ≡ 3 → Rose (S.faults source.old) (S.faults source.new) }
-    ensures write_failed { result ≡ 4 → Rose (K.faults sink.old) (K.faults sink.new) }
-    ensures post_failed { result ≡ 8 → Rose (P.faults post.old) (P.faults post.new) }
-    ensures source_same { result ≢ 3 → S.faults source.new ≡ S.faults source.old }
-    ensures sink_same { result ≢ 4 → K.faults sink.new ≡ K.faults sink.old }
-    ensures post_same { result ≡ 0 → P.faults post.new ≡ P.faults post.old }
+    ensures source { SourceStatus result (S.faults source.old) (S.faults source.new) }
+    ensures sink { SinkStatus result (K.faults sink.old) (K.faults sink.new) }
+    ensures post { PostStatus result (P.faults post.old) (P.faults post.new) }
     ensures complete { (result ≡ 3) ⊎ (IsWhole result ⊎ (IsCut result ⊎ (result ≡ 8))) }
 {
     let bytes = match read_all(alloc, source, MAX_INPUT_BYTES + 1) {
@@ -280,6 +283,8 @@ fn publish_source<S: Source, K: Sink, P: Post>(
 
 /// Reads the bytes of a source, and answers them by what they are read as. Gives the status.
 fn from_source<S: Source, K: Sink>(alloc: Global, input: Input, source: &mut S, sink: &mut K) -> u8
+    ensures audited { result ≡ 0 → input ≡ Input.Journals →
+        IfSome (S.left source.old) (λ bytes. WasAudited (K.taken sink.old) (K.taken sink.new) bytes) }
     ensures replayed { result ≡ 0 → input ≡ Input.Scenario →
         IfSome (S.left source.old) (λ bytes. WasReplayed (K.taken sink.old) (K.taken sink.new) (asked_by bytes)) }
     ensures cut { IsCut result → input ≡ Input.Scenario →
@@ -291,10 +296,8 @@ fn from_source<S: Source, K: Sink>(alloc: Global, input: Input, source: &mut S, 
         (λ bytes. TakesFront (K.taken sink.old) (K.taken sink.new) (answer_of input bytes).text) }
     ensures nothing { result ≡ 3 → K.taken sink.new ≡ K.taken sink.old }
     ensures known { result ≢ 1 }
-    ensures read_failed { result ≡ 3 → Rose (S.faults source.old) (S.faults source.new) }
-    ensures write_failed { result ≡ 4 → Rose (K.faults sink.old) (K.faults sink.new) }
-    ensures source_same { result ≢ 3 → S.faults source.new ≡ S.faults source.old }
-    ensures sink_same { result ≢ 4 → K.faults sink.new ≡ K.faults sink.old }
+    ensures source { SourceStatus result (S.faults source.old) (S.faults source.new) }
+    ensures sink { SinkStatus result (K.faults sink.old) (K.faults sink.new) }
     ensures complete { (result ≡ 3) ⊎ (IsWhole result ⊎ IsCut result) }
 {
     let bytes = match read_all(alloc, source, MAX_INPUT_BYTES + 1) {
@@ -307,6 +310,8 @@ fn from_source<S: Source, K: Sink>(alloc: Global, input: Input, source: &mut S, 
 
 /// Answers bytes by what they are read as. Gives the status.
 fn answer<K: Sink>(alloc: Global, input: Input, bytes: &[u8], sink: &mut K) -> u8
+    ensures audited { result ≡ 0 → input ≡ Input.Journals →
+        WasAudited (K.taken sink.old) (K.taken sink.new) bytes.now }
     ensures replayed { result ≡ 0 → input ≡ Input.Scenario →
         WasReplayed (K.taken sink.old) (K.taken sink.new) (asked_by bytes.now) }
     ensures cut { IsCut result → input ≡ Input.Scenario →
@@ -316,13 +321,13 @@ fn answer<K: Sink>(alloc: Global, input: Input, bytes: &[u8], sink: &mut K) -> u
     ensures front { IsCut result →
         TakesFront (K.taken sink.old) (K.taken sink.new) (answer_of input bytes.now).text }
     ensures known { result ≢ 1 }
-    ensures write_failed { result ≡ 4 → Rose (K.faults sink.old) (K.faults sink.new) }
-    ensures sink_same { result ≢ 4 → K.faults sink.new ≡ K.faults sink.old }
-    ensures complete { IsWhole result ⊎ IsCut result }
+    ensures sink { SinkStatus result (K.faults sink.old) (K.faults sink.new) }
+    ensures complete { WholeOrCut result }
 {
     match input {
         Input::Scenario => replay_bytes(alloc, bytes, sink),
         Input::MatchText => match_bytes(alloc, bytes, sink),
         Input::CoverText => cover_bytes(alloc, bytes, sink),
+        Input::Journals => audit_bytes(alloc, bytes, sink),
     }
 }

@@ -11,6 +11,7 @@ ghost use Rattle.gr_top.specs.Words.{texts_of, turns_rule, serve_app, publish_ap
 ghost use Rattle.gr_top.specs.Words.{HasCount, taken, serve_by, publish_by, task_by, is_known, IsInRange};
 
 use crate::broker_words::BrokerWords;
+use crate::voice::Voice;
 use crate::word::Word;
 use clap::error::ErrorKind;
 use clap::{Arg, ArgAction, ArgMatches, Command, Error};
@@ -25,6 +26,8 @@ pub enum Task<'a> {
     Replay,
     /// A scenario is to be read, and brokers of its topology are to serve.
     Serve {
+        /// What they write.
+        voice: Voice,
         /// How many arrivals are taken, 1 to 1,000,000.
         turns: u64,
         /// The names of the brokers, as they stand among the words.
@@ -37,6 +40,8 @@ pub enum Task<'a> {
         /// How many arrivals are taken, 1 to 1,000,000.
         turns: u64,
     },
+    /// A scenario and journals are to be read, and the journals audited.
+    Audit,
     /// A match text is to be read, and its events matched.
     Match,
     /// A match text is to be read, and its filters compared.
@@ -63,10 +68,16 @@ pub fn task_of<'a>(alloc: Global, words: &'a [&'a str]) -> Result<Task<'a>, Allo
         return bare_task(alloc, "replay", words, Task::Replay);
     }
     if name == "serve" {
-        return serve_task(alloc, words);
+        return serve_task(alloc, "serve", words, Voice::Report);
+    }
+    if name == "trace" {
+        return serve_task(alloc, "trace", words, Voice::Journal);
     }
     if name == "publish" {
         return publish_task(alloc, words);
+    }
+    if name == "audit" {
+        return bare_task(alloc, "audit", words, Task::Audit);
     }
     if name == "match" {
         return bare_task(alloc, "match", words, Task::Match);
@@ -96,18 +107,28 @@ fn bare_task<'a>(
     }
 }
 
-/// The task of `serve TURNS BROKER...`, where its definition takes the words.
-fn serve_task<'a>(alloc: Global, words: &'a [&'a str]) -> Result<Task<'a>, AllocError>
-    ensures task { IfOk result (λ t. t ≡ taken (fault_of serve_app (texts_of words.entry.now))
-        (serve_by (texts_of words.entry.now))) }
+/// The task of `serve TURNS BROKER...` or `trace TURNS BROKER...`, where its definition takes the words.
+fn serve_task<'a>(
+    alloc: Global,
+    name: &'a str,
+    words: &'a [&'a str],
+    voice: Voice,
+) -> Result<Task<'a>, AllocError>
+    ensures task { IfOk result (λ t.
+        t ≡ taken (fault_of (serve_app name.entry.now) (texts_of words.entry.now))
+        (serve_by voice name.entry.now (texts_of words.entry.now))) }
     ensures range { IfOk result IsInRange }
 {
-    let command = serve_command(alloc)?;
+    let command = serve_command(alloc, name)?;
     match command.try_get_matches_from(words) {
         Ok(matches) => match matches.get_one::<u64>("turns") {
             Some(turns) => {
                 let brokers = brokers_in(alloc, &matches)?;
-                Ok(Task::Serve { turns, brokers })
+                Ok(Task::Serve {
+                    voice,
+                    turns,
+                    brokers,
+                })
             }
             None => unreachable!(),
         },
@@ -115,14 +136,14 @@ fn serve_task<'a>(alloc: Global, words: &'a [&'a str]) -> Result<Task<'a>, Alloc
     }
 }
 
-/// The definition of `serve TURNS BROKER...`.
-fn serve_command<'a>(alloc: Global) -> Result<Command<'a>, AllocError>
-    ensures app { IfOk result (λ command. app_of command ≡ serve_app) }
+/// The definition of a command with the words `TURNS BROKER...`.
+fn serve_command<'a>(alloc: Global, name: &'a str) -> Result<Command<'a>, AllocError>
+    ensures app { IfOk result (λ command. app_of command ≡ serve_app name.entry.now) }
     ensures reads { IfOk result (λ command. (matches : _) → IsParsedFrom command matches → HasTurns matches) }
 {
     let turns = turns_argument(alloc);
     let brokers = Arg::new(alloc, "brokers").required(true).num_args(1..);
-    let command = Command::new(alloc, "serve").arg(turns)?.arg(brokers)?;
+    let command = Command::new(alloc, name).arg(turns)?.arg(brokers)?;
     Ok(command)
 }
 

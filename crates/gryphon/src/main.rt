@@ -1,9 +1,10 @@
 //! The command `gryphon`: `gryphon replay` reads a scenario from standard input, carries it out and prints its report;
-//! `gryphon serve TURNS BROKER...` reads one too, and runs the named brokers of its topology over datagrams; `gryphon
-//! publish P TURNS` reads one, and submits the events of a publisher of it to its host, over datagrams; `gryphon match`
-//! reads filters and events, and prints for each event the filters that match it; `gryphon cover` reads filters, and
-//! prints for each two of them whether the one covers the other; `gryphon soak N` makes a scenario, carries it out and
-//! prints counts over its report.
+//! `gryphon serve TURNS BROKER...` reads one too, and runs the named brokers of its topology over datagrams, and so does
+//! `gryphon trace TURNS BROKER...`, which prints their journal; `gryphon audit` reads a scenario and journals, and says
+//! whether these are one honest run; `gryphon publish P TURNS` reads a scenario, and submits the events of a publisher
+//! of it to its host, over datagrams; `gryphon match` reads filters and events, and prints for each event the filters
+//! that match it; `gryphon cover` reads filters, and prints for each two of them whether the one covers the other;
+//! `gryphon soak N` makes a scenario, carries it out and prints counts over its report.
 #![tactic(auto)]
 
 mod top;

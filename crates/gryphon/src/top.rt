@@ -12,8 +12,10 @@ ghost use Rattle.gr_top.specs.Serving.{IfRun, around, RunsTo, StopsBy, NotBegun,
 ghost use Rattle.gr_top.specs.Serving.{AllRead};
 ghost use Rattle.gr_top.specs.Publishing.{IfPublish, outside, PublishesTo, StopsPublishing};
 ghost use Rattle.gr_top.specs.Publishing.{NotPublished};
-ghost use Rattle.gr_top.specs.Answers.{answer_of, answer_to};
+ghost use Rattle.gr_top.specs.Auditing.{WasAudited};
+ghost use Rattle.gr_top.specs.Answers.{answer_to};
 ghost use Rattle.gr_top.specs.Top.{WasReplayed, AtMostCut, IsAnswered, IsWhole, IsCut, IsStop};
+ghost use Rattle.gr_top.specs.Status.{SourceStatus, SinkStatus, DiskStatus, PostStatus};
 
 use gr_out::{Disk, Sink, Source};
 use gr_pace::Paced;
@@ -51,23 +53,27 @@ pub fn gryphon<S: Source, K: Sink, D: Disk, P: Paced>(
     ensures read_to_its_end { IsReading (task_by (texts_of words.now)) → (result ≡ 0) ⊎ (result ≡ 2) →
         IsAtEnd (S.left source.new) }
 
-    // Of brokers that serve: a run that was carried out, with its headline, and one that was stopped; and that the
-    // lanes held logs, or which was the first that did not.
+    // Of journals that were audited: where the verdict is yes, they are one honest run.
+    ensures audited { result ≡ 0 → task_by (texts_of words.now) ≡ Task.Audit →
+        IfSome (S.left source.old) (λ bytes. WasAudited (K.taken sink.old) (K.taken sink.new) bytes) }
+
+    // Of brokers that serve, and write their report or their journal: a run that was carried out, with its headline
+    // of a report, and one that was stopped; and that the lanes held logs, or which was the first that did not.
     ensures served { result ≡ 0 → IfRun (task_by (texts_of words.now)) (S.left source.old)
-        (λ turns t lines hosted. RunsTo t lines hosted turns P.tells D.tells
+        (λ voice turns t lines hosted. RunsTo voice t lines hosted turns P.tells D.tells
         (around (K.taken sink.old) (P.journal post.old) (D.lane_of disk.old))
         (around (K.taken sink.new) (P.journal post.new) (D.lane_of disk.new)) (Ok tt)) }
     ensures stopped { IsCut result ⊎ IsStop result → IfRun (task_by (texts_of words.now)) (S.left source.old)
-        (λ turns t lines hosted. NotBegun
+        (λ voice turns t lines hosted. NotBegun
         (around (K.taken sink.old) (P.journal post.old) (D.lane_of disk.old))
         (around (K.taken sink.new) (P.journal post.new) (D.lane_of disk.new)) result
-        ⊎ StopsBy t lines hosted turns P.tells D.tells
+        ⊎ StopsBy voice t lines hosted turns P.tells D.tells
         (around (K.taken sink.old) (P.journal post.old) (D.lane_of disk.old))
         (around (K.taken sink.new) (P.journal post.new) (D.lane_of disk.new)) result) }
     ensures damaged { result ≡ 6 → D.tells → IfRun (task_by (texts_of words.now)) (S.left source.old)
-        (λ turns t lines hosted. IsDamaged t hosted (D.lane_of disk.old)) }
+        (λ voice turns t lines hosted. IsDamaged t hosted (D.lane_of disk.old)) }
     ensures undamaged { result ≡ 0 → D.tells → IfRun (task_by (texts_of words.now)) (S.left source.old)
-        (λ turns t lines hosted. AllRead t hosted (D.lane_of disk.old)) }
+        (λ voice turns t lines hosted. AllRead t hosted (D.lane_of disk.old)) }
 
     // Of a client that submits: a run that was carried out, and one that was stopped.
     ensures published { result ≡ 0 → IfPublish (task_by (texts_of words.now)) (S.left source.old)
@@ -103,18 +109,13 @@ pub fn gryphon<S: Source, K: Sink, D: Disk, P: Paced>(
     ensures refuses { IsStop result → IfSome (answer_to (task_by (texts_of words.now)) (S.left source.old))
         (λ answer. ⊥) }
     ensures runs { IsWhole result → IfRun (task_by (texts_of words.now)) (S.left source.old)
-        (λ turns t lines hosted. result ≡ 0) }
+        (λ voice turns t lines hosted. result ≡ 0) }
     ensures publish_runs { IsWhole result → IfPublish (task_by (texts_of words.now)) (S.left source.old)
         (λ turns t lines p. result ≡ 0) }
-    ensures read_failed { result ≡ 3 → Rose (S.faults source.old) (S.faults source.new) }
-    ensures write_failed { result ≡ 4 → Rose (K.faults sink.old) (K.faults sink.new) }
-    ensures disk_failed { result ≡ 5 →
-        EitherRose (D.faults disk.old) (D.faults disk.new) (D.stops disk.old) (D.stops disk.new) }
-    ensures post_failed { result ≡ 8 → Rose (P.faults post.old) (P.faults post.new) }
-    ensures source_same { result ≢ 3 → S.faults source.new ≡ S.faults source.old }
-    ensures sink_same { result ≢ 4 → K.faults sink.new ≡ K.faults sink.old }
-    ensures disk_same { result ≡ 0 → (D.faults disk.new ≡ D.faults disk.old) × (D.stops disk.new ≡ D.stops disk.old) }
-    ensures post_same { result ≡ 0 → P.faults post.new ≡ P.faults post.old }
+    ensures source { SourceStatus result (S.faults source.old) (S.faults source.new) }
+    ensures sink { SinkStatus result (K.faults sink.old) (K.faults sink.new) }
+    ensures disk { DiskStatus result (D.faults disk.old) (D.stops disk.old) (D.faults disk.new) (D.stops disk.new) }
+    ensures post { PostStatus result (P.faults post.old) (P.faults post.new) }
     ensures complete { (result ≡ 3) ⊎ (IsWhole result ⊎ (IsCut result ⊎ IsStop result)) }
     // Where no fault was counted, the status is that of the answer, but for want of memory; that of brokers that serve
     // is 0, but for lanes that hold no log and want of memory; and that of a client is 0, but for want of memory.
@@ -127,7 +128,7 @@ pub fn gryphon<S: Source, K: Sink, D: Disk, P: Paced>(
         → (EitherRose (D.faults disk.old) (D.faults disk.new) (D.stops disk.old) (D.stops disk.new) → ⊥)
         → (Rose (P.faults post.old) (P.faults post.new) → ⊥)
         → IfRun (task_by (texts_of words.now)) (S.left source.old)
-        (λ turns t lines hosted. (result ≡ 0) ⊎ ((result ≡ 6) ⊎ (result ≡ 7))) }
+        (λ voice turns t lines hosted. (result ≡ 0) ⊎ ((result ≡ 6) ⊎ (result ≡ 7))) }
     ensures completeness_of_publishing { (Rose (S.faults source.old) (S.faults source.new) → ⊥)
         → (Rose (K.faults sink.old) (K.faults sink.new) → ⊥)
         → (Rose (P.faults post.old) (P.faults post.new) → ⊥)

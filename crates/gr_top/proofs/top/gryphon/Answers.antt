@@ -37,7 +37,7 @@ returns-in-Ok-Serve-clause-completeness g c =
     let old = g.K.Sink.taken c.args.sink.now in
     let new = g.K.Sink.taken c.serve_source.new.sink in
     let same = sym c.in-Ok-Serve.field-0-is ∙ c.in-Ok-Serve.ensures.task in
-    complete_unless r (answer_to (task_by (texts_of c.args.words.now)) left) old new _ _ c.serve_source.ensures.read_failed c.serve_source.ensures.write_failed
+    complete_unless r (answer_to (task_by (texts_of c.args.words.now)) left) old new _ _ c.serve_source.ensures.source.failed c.serve_source.ensures.sink.failed
     (λ w. subst (λ task. IfSome (answer_to task left) (IsAnswered r old new)) same (c.serve_source.ensures.answered w))
     (λ p. subst (λ task. IfSome (answer_to task left) (λ a. ⊥)) same (c.serve_source.ensures.refuses p))
     c.serve_source.ensures.complete
