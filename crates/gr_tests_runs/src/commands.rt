@@ -32,6 +32,7 @@ pub fn answer(alloc: Global, texts: &mut Texts, row: &str, page: &mut Page) -> R
         "front" => run(alloc, texts, rest, 2, page),
         "offers" => run_offers(alloc, texts, rest, page),
         "lane" => run_lane(alloc, texts, rest, page),
+        "keep" => run_kept(alloc, texts, rest, page),
         "picks" => picks(alloc, texts, rest, page),
         _ => Err(Stop::NoRow),
     }
@@ -339,6 +340,32 @@ fn keep_lane(alloc: Global, texts: &mut Texts, lane: &[u8], page: &mut Page) -> 
     page.push_hex(lane);
     page.push('\n');
     texts.put(alloc, "lane", Vec::from_slice(alloc, lane)?)
+}
+
+/// The row `keep WORDS..`: the same as `run`, and what was printed is the text `traced` then.
+fn run_kept(alloc: Global, texts: &mut Texts, row: &str, page: &mut Page) -> Result<(), Stop> {
+    let mut sink = sink_of(alloc, texts)?;
+    let status = run_into(alloc, texts, row, &mut sink)?;
+    put_printed(status, sink.bytes(), usize::MAX, page)?;
+    texts.put(alloc, "traced", Vec::from_slice(alloc, sink.bytes())?)
+}
+
+/// A run into a sink, and its status.
+fn run_into(alloc: Global, texts: &Texts, row: &str, sink: &mut MemSink) -> Result<u8, Stop> {
+    let mut post = post_of(alloc, texts)?;
+    run_between(alloc, texts, row, sink, &mut post)
+}
+
+/// A run into a sink, over a post.
+fn run_between(
+    alloc: Global,
+    texts: &Texts,
+    row: &str,
+    sink: &mut MemSink,
+    post: &mut MemPost,
+) -> Result<u8, Stop> {
+    let mut disk = disk_of(alloc, texts)?;
+    called(alloc, texts, row, sink, &mut disk, post)
 }
 
 /// The row `picks NUMBER CALL`: the first publish, or the second one, is stopped inside at that call of the disk, and
