@@ -24,27 +24,30 @@ def is_number(word, most):
     return bool(re.fullmatch(r'\+?[0-9]{1,19}', word)) and 1 <= int(word) <= most
 
 
+COMMANDS = 'replay, serve, trace, publish, audit, match, cover'
+
+
 def usage_fault(words):
     """Why the program answers these words with its usage line; an empty text where it does not."""
     words = words[:-1] if words[-1:] == ['--'] else words
     if not words:
-        return 'name a command: replay, serve, publish, match, cover or soak'
+        return 'name a command: %s or soak' % COMMANDS
     command, *rest = words
-    if command in ('replay', 'match', 'cover'):
+    if command in ('replay', 'audit', 'match', 'cover'):
         return rest and '`%s` takes no further words, and reads its text from standard input' % command
     if command == 'soak':
         is_right = len(rest) == 1 and is_number(rest[0], 2000)
         return '' if is_right else '`soak N`: N is a number, 1 to 2,000'
-    if command == 'serve':
-        return serve_fault(rest)
+    if command in ('serve', 'trace'):
+        return serve_fault(command, rest)
     if command == 'publish':
         return publish_fault(rest)
-    return 'there is no command `%s`: they are replay, serve, publish, match, cover and soak' % command
+    return 'there is no command `%s`: they are %s and soak' % (command, COMMANDS)
 
 
-def serve_fault(rest):
-    """Why these words cannot stand behind `serve`."""
-    shape = '`serve TURNS BROKER...`: '
+def serve_fault(command, rest):
+    """Why these words cannot stand behind `serve` or `trace`."""
+    shape = '`%s TURNS BROKER...`: ' % command
     if not rest:
         return shape + 'TURNS and a BROKER are missing'
     if not is_number(rest[0], 1_000_000):
