@@ -1,7 +1,7 @@
 //! A log, and what is known by it.
 
 ghost use Rattle.std.specs.Prelude.{◌≡◌, ◌≢◌, ◌↔◌, ℕ, ◌+◌, ◌^◌, ◌≤◌, ◌<◌, ◌||◌, true, false, Some, None, Err, IsErr};
-ghost use Rattle.std.specs.Prelude.{IsSome, IfOk, OnOk, IsErrOf, nat_eq, length};
+ghost use Rattle.std.specs.Prelude.{IsSome, IfOk, IsErrOf, nat_eq, length};
 ghost use Rattle.std.specs.List.{list_any};
 ghost use Rattle.gr_event.specs.declared.limits.TheConstants.{MAX_JOINS};
 ghost use Rattle.gr_out.specs.Lane.{has_stopped};
@@ -9,7 +9,7 @@ ghost use Rattle.gr_out.specs.Stops.{StaysFaultless};
 ghost use Rattle.gr_tick.specs.declared.TheConstants.{MAX_TICK};
 ghost use Rattle.gr_tick.specs.Stored.{RunsGive};
 ghost use Rattle.gr_know.specs.declared.values.K.TheVariants.{Q};
-ghost use Rattle.gr_publog.specs.Views.{lanes_at, AwayFrom, IsReady};
+ghost use Rattle.gr_publog.specs.Views.{lanes_at, AwayFrom};
 ghost use Rattle.gr_publog.specs.Opens.{Opens};
 ghost use Rattle.gr_publog.specs.Calls.{Appends, Tally, Causes, Leaves};
 ghost use Rattle.gr_publog.specs.declared.record.LogFault.TheVariants.{Memory as WantOfMemory, Disk as DiskFailed};
@@ -19,6 +19,7 @@ ghost use Rattle.gr_pubend.specs.Answers.{published, quieted, joined_at, publish
 ghost use Rattle.gr_pubend.specs.Answers.{IsPlanned, IsPlannedMark, IsPlannedJoin};
 ghost use Rattle.gr_pubend.specs.Cuts.{Cuts, cutting_of, cut_lane};
 ghost use Rattle.gr_pubend.specs.End.{grown, cut_end, after_call, broken_end, log_result, present_lane};
+ghost use Rattle.gr_pubend.specs.Uses.{IsReadyOn, UsesEnd};
 
 use crate::answers::{Joined, Published, Quieted};
 use crate::cutting::{Cutting, cut_log};
@@ -147,29 +148,19 @@ impl Pubend {
         now: u64,
     ) -> Result<Published, LogFault>
         requires now { now ≤ MAX_TICK }
-        requires stands { D.tells → IsReady self.old.log (lanes_at (D.lane_of disk.old) self.old.log.lane) }
+        requires stands { IsReadyOn D.tells D.lane_of self.old.log disk.old }
         ensures answer { IfOk result (λ answer. answer ≡ published (said self.old.log) number event.now now) }
         ensures end { let logged = publish_logs (said self.old.log) number event.now now in
             Leaves self.old (after_call logged self.old) (broken_end self.old) self.new result }
-        ensures goes_on { OnOk result
-            ((self.new.log.lane ≡ self.old.log.lane) × (self.new.log.broken ≡ self.old.log.broken)) }
         ensures lanes { let l = self.old.log in let before = lanes_at (D.lane_of disk.old) l.lane in
             let logged = publish_logs (said self.old.log) number event.now now in
             D.tells → Appends l logged before (lanes_at (D.lane_of disk.new) l.lane) result }
         ensures reopen { let logged = publish_logs (said self.old.log) number event.now now in
             IsErrOf result LogFault.Reopen ↔ ((self.old.log.broken ≡ true) × IsSome logged) }
-        ensures idle { IsErrOf result LogFault.Reopen → disk.new ≡ disk.old }
         ensures untouched { let logged = publish_logs (said self.old.log) number event.now now in
             logged ≡ None → disk.new ≡ disk.old }
-        ensures tally { let f = D.faults disk.old in let s = D.stops disk.old in
-            Tally f s (D.faults disk.new) (D.stops disk.new) result }
-        ensures causes { let f = D.faults disk.old in let f' = D.faults disk.new in
-            let lane = D.lane_of disk.new (present_lane self.old.log) in
-            D.tells → Causes (D.faultless disk.old) (has_stopped lane.stop) f f' result }
-        ensures faultless { let f = D.faults disk.old in
-            StaysFaultless (D.faultless disk.old) (D.faultless disk.new) f (D.faults disk.new) }
-        ensures others { D.tells →
-            (n : ℕ) → AwayFrom self.old.log.lane n → D.lane_of disk.new n ≡ D.lane_of disk.old n }
+        ensures uses { let lane = present_lane self.old.log in
+            UsesEnd D.tells D.faultless D.lane_of D.faults D.stops lane self.old self.new disk.old disk.new result }
     {
         // Proof only: where nothing is logged the lanes hold what they held.
         stands_read();
@@ -209,29 +200,19 @@ impl Pubend {
     ) -> Result<Quieted, LogFault>
         requires now { now ≤ MAX_TICK }
         requires some { 1 ≤ quiet }
-        requires stands { D.tells → IsReady self.old.log (lanes_at (D.lane_of disk.old) self.old.log.lane) }
+        requires stands { IsReadyOn D.tells D.lane_of self.old.log disk.old }
         ensures answer { IfOk result (λ answer. answer ≡ quieted (said self.old.log) now quiet) }
         ensures end { let logged = quiet_logs (said self.old.log) now quiet in
             Leaves self.old (after_call logged self.old) (broken_end self.old) self.new result }
-        ensures goes_on { OnOk result
-            ((self.new.log.lane ≡ self.old.log.lane) × (self.new.log.broken ≡ self.old.log.broken)) }
         ensures lanes { let l = self.old.log in let before = lanes_at (D.lane_of disk.old) l.lane in
             let logged = quiet_logs (said self.old.log) now quiet in
             D.tells → Appends l logged before (lanes_at (D.lane_of disk.new) l.lane) result }
         ensures reopen { let logged = quiet_logs (said self.old.log) now quiet in
             IsErrOf result LogFault.Reopen ↔ ((self.old.log.broken ≡ true) × IsSome logged) }
-        ensures idle { IsErrOf result LogFault.Reopen → disk.new ≡ disk.old }
         ensures untouched { let logged = quiet_logs (said self.old.log) now quiet in
             logged ≡ None → disk.new ≡ disk.old }
-        ensures tally { let f = D.faults disk.old in let s = D.stops disk.old in
-            Tally f s (D.faults disk.new) (D.stops disk.new) result }
-        ensures causes { let f = D.faults disk.old in let f' = D.faults disk.new in
-            let lane = D.lane_of disk.new (present_lane self.old.log) in
-            D.tells → Causes (D.faultless disk.old) (has_stopped lane.stop) f f' result }
-        ensures faultless { let f = D.faults disk.old in
-            StaysFaultless (D.faultless disk.old) (D.faultless disk.new) f (D.faults disk.new) }
-        ensures others { D.tells →
-            (n : ℕ) → AwayFrom self.old.log.lane n → D.lane_of disk.new n ≡ D.lane_of disk.old n }
+        ensures uses { let lane = present_lane self.old.log in
+            UsesEnd D.tells D.faultless D.lane_of D.faults D.stops lane self.old self.new disk.old disk.new result }
     {
         // Proof only: where nothing is logged the lanes hold what they held.
         stands_read();
@@ -262,29 +243,19 @@ impl Pubend {
     pub fn join<D: Disk>(&mut self, disk: &mut D, s: u16, now: u64) -> Result<Joined, LogFault>
         requires now { now ≤ MAX_TICK }
         requires late { list_any (λ x. nat_eq x s) self.old.log.state.late ≡ true }
-        requires stands { D.tells → IsReady self.old.log (lanes_at (D.lane_of disk.old) self.old.log.lane) }
+        requires stands { IsReadyOn D.tells D.lane_of self.old.log disk.old }
         ensures answer { IfOk result (λ answer. answer ≡ joined_at (said self.old.log) s now) }
         ensures end { let logged = join_logs (said self.old.log) s now in
             Leaves self.old (after_call logged self.old) (broken_end self.old) self.new result }
-        ensures goes_on { OnOk result
-            ((self.new.log.lane ≡ self.old.log.lane) × (self.new.log.broken ≡ self.old.log.broken)) }
         ensures lanes { let l = self.old.log in let before = lanes_at (D.lane_of disk.old) l.lane in
             let logged = join_logs (said self.old.log) s now in
             D.tells → Appends l logged before (lanes_at (D.lane_of disk.new) l.lane) result }
         ensures reopen { let logged = join_logs (said self.old.log) s now in
             IsErrOf result LogFault.Reopen ↔ ((self.old.log.broken ≡ true) × IsSome logged) }
-        ensures idle { IsErrOf result LogFault.Reopen → disk.new ≡ disk.old }
         ensures untouched { let logged = join_logs (said self.old.log) s now in
             logged ≡ None → disk.new ≡ disk.old }
-        ensures tally { let f = D.faults disk.old in let s = D.stops disk.old in
-            Tally f s (D.faults disk.new) (D.stops disk.new) result }
-        ensures causes { let f = D.faults disk.old in let f' = D.faults disk.new in
-            let lane = D.lane_of disk.new (present_lane self.old.log) in
-            D.tells → Causes (D.faultless disk.old) (has_stopped lane.stop) f f' result }
-        ensures faultless { let f = D.faults disk.old in
-            StaysFaultless (D.faultless disk.old) (D.faultless disk.new) f (D.faults disk.new) }
-        ensures others { D.tells →
-            (n : ℕ) → AwayFrom self.old.log.lane n → D.lane_of disk.new n ≡ D.lane_of disk.old n }
+        ensures uses { let lane = present_lane self.old.log in
+            UsesEnd D.tells D.faultless D.lane_of D.faults D.stops lane self.old self.new disk.old disk.new result }
     {
         // Proof only: where nothing is logged the lanes hold what they held.
         stands_read();
@@ -322,25 +293,15 @@ impl Pubend {
         fresh: &Piece<K>,
     ) -> Result<(), LogFault>
         requires planned { IsPlanned self.old.log.state number event.now (Published.Logged tick fresh.now) }
-        requires stands { D.tells → IsReady self.old.log (lanes_at (D.lane_of disk.old) self.old.log.lane) }
+        requires stands { IsReadyOn D.tells D.lane_of self.old.log disk.old }
         ensures end { let logged = grown (Record.Event tick number event.now) self.old in
             Leaves self.old logged (broken_end self.old) self.new result }
-        ensures goes_on { OnOk result
-            ((self.new.log.lane ≡ self.old.log.lane) × (self.new.log.broken ≡ self.old.log.broken)) }
         ensures lanes { let l = self.old.log in let before = lanes_at (D.lane_of disk.old) l.lane in
             let logged = Some (Record.Event tick number event.now) in
             D.tells → Appends l logged before (lanes_at (D.lane_of disk.new) l.lane) result }
         ensures reopen { IsErrOf result LogFault.Reopen ↔ (self.old.log.broken ≡ true) }
-        ensures idle { IsErrOf result LogFault.Reopen → disk.new ≡ disk.old }
-        ensures tally { let f = D.faults disk.old in let s = D.stops disk.old in
-            Tally f s (D.faults disk.new) (D.stops disk.new) result }
-        ensures causes { let f = D.faults disk.old in let f' = D.faults disk.new in
-            let lane = D.lane_of disk.new (present_lane self.old.log) in
-            D.tells → Causes (D.faultless disk.old) (has_stopped lane.stop) f f' result }
-        ensures faultless { let f = D.faults disk.old in
-            StaysFaultless (D.faultless disk.old) (D.faultless disk.new) f (D.faults disk.new) }
-        ensures others { D.tells →
-            (n : ℕ) → AwayFrom self.old.log.lane n → D.lane_of disk.new n ≡ D.lane_of disk.old n }
+        ensures uses { let lane = present_lane self.old.log in
+            UsesEnd D.tells D.faultless D.lane_of D.faults D.stops lane self.old self.new disk.old disk.new result }
     {
         let entry = Record::Event {
             tick,
@@ -359,23 +320,13 @@ impl Pubend {
         fresh: &Piece<K>,
     ) -> Result<(), LogFault>
         requires planned { IsPlannedMark self.old.log.state (Quieted.Marked tick fresh.now) }
-        requires stands { D.tells → IsReady self.old.log (lanes_at (D.lane_of disk.old) self.old.log.lane) }
+        requires stands { IsReadyOn D.tells D.lane_of self.old.log disk.old }
         ensures end { Leaves self.old (grown (Record.Mark tick) self.old) (broken_end self.old) self.new result }
-        ensures goes_on { OnOk result
-            ((self.new.log.lane ≡ self.old.log.lane) × (self.new.log.broken ≡ self.old.log.broken)) }
         ensures lanes { let l = self.old.log in let before = lanes_at (D.lane_of disk.old) l.lane in
             D.tells → Appends l (Some (Record.Mark tick)) before (lanes_at (D.lane_of disk.new) l.lane) result }
         ensures reopen { IsErrOf result LogFault.Reopen ↔ (self.old.log.broken ≡ true) }
-        ensures idle { IsErrOf result LogFault.Reopen → disk.new ≡ disk.old }
-        ensures tally { let f = D.faults disk.old in let s = D.stops disk.old in
-            Tally f s (D.faults disk.new) (D.stops disk.new) result }
-        ensures causes { let f = D.faults disk.old in let f' = D.faults disk.new in
-            let lane = D.lane_of disk.new (present_lane self.old.log) in
-            D.tells → Causes (D.faultless disk.old) (has_stopped lane.stop) f f' result }
-        ensures faultless { let f = D.faults disk.old in
-            StaysFaultless (D.faultless disk.old) (D.faultless disk.new) f (D.faults disk.new) }
-        ensures others { D.tells →
-            (n : ℕ) → AwayFrom self.old.log.lane n → D.lane_of disk.new n ≡ D.lane_of disk.old n }
+        ensures uses { let lane = present_lane self.old.log in
+            UsesEnd D.tells D.faultless D.lane_of D.faults D.stops lane self.old self.new disk.old disk.new result }
     {
         self.log_and_join(disk, &Record::Mark { tick }, fresh)
     }
@@ -390,23 +341,13 @@ impl Pubend {
         fresh: &Piece<K>,
     ) -> Result<(), LogFault>
         requires planned { IsPlannedJoin self.old.log.state s (Joined.Logged tick fresh.now) }
-        requires stands { D.tells → IsReady self.old.log (lanes_at (D.lane_of disk.old) self.old.log.lane) }
+        requires stands { IsReadyOn D.tells D.lane_of self.old.log disk.old }
         ensures end { Leaves self.old (grown (Record.Join tick s) self.old) (broken_end self.old) self.new result }
-        ensures goes_on { OnOk result
-            ((self.new.log.lane ≡ self.old.log.lane) × (self.new.log.broken ≡ self.old.log.broken)) }
         ensures lanes { let l = self.old.log in let before = lanes_at (D.lane_of disk.old) l.lane in
             D.tells → Appends l (Some (Record.Join tick s)) before (lanes_at (D.lane_of disk.new) l.lane) result }
         ensures reopen { IsErrOf result LogFault.Reopen ↔ (self.old.log.broken ≡ true) }
-        ensures idle { IsErrOf result LogFault.Reopen → disk.new ≡ disk.old }
-        ensures tally { let f = D.faults disk.old in let s = D.stops disk.old in
-            Tally f s (D.faults disk.new) (D.stops disk.new) result }
-        ensures causes { let f = D.faults disk.old in let f' = D.faults disk.new in
-            let lane = D.lane_of disk.new (present_lane self.old.log) in
-            D.tells → Causes (D.faultless disk.old) (has_stopped lane.stop) f f' result }
-        ensures faultless { let f = D.faults disk.old in
-            StaysFaultless (D.faultless disk.old) (D.faultless disk.new) f (D.faults disk.new) }
-        ensures others { D.tells →
-            (n : ℕ) → AwayFrom self.old.log.lane n → D.lane_of disk.new n ≡ D.lane_of disk.old n }
+        ensures uses { let lane = present_lane self.old.log in
+            UsesEnd D.tells D.faultless D.lane_of D.faults D.stops lane self.old self.new disk.old disk.new result }
     {
         let entry = Record::Join {
             tick,
@@ -425,24 +366,14 @@ impl Pubend {
     ) -> Result<Cutting, LogFault>
         requires past { self.old.log.state.cut < tick }
         requires upto { tick ≤ self.old.log.state.settled }
-        requires stands { D.tells → IsReady self.old.log (lanes_at (D.lane_of disk.old) self.old.log.lane) }
+        requires stands { IsReadyOn D.tells D.lane_of self.old.log disk.old }
         ensures answer { IfOk result (λ c. c ≡ cutting_of self.old.log reclaim) }
         ensures end { Leaves self.old (cut_end reclaim tick self.old) (broken_end self.old) self.new result }
-        ensures goes_on { OnOk result
-            ((self.new.log.lane ≡ self.old.log.lane) × (self.new.log.broken ≡ self.old.log.broken)) }
         ensures lanes { let l = self.old.log in let before = lanes_at (D.lane_of disk.old) l.lane in
             D.tells → Cuts l (Some tick) reclaim before (lanes_at (D.lane_of disk.new) l.lane) result }
         ensures reopen { IsErrOf result LogFault.Reopen ↔ (self.old.log.broken ≡ true) }
-        ensures idle { IsErrOf result LogFault.Reopen → disk.new ≡ disk.old }
-        ensures tally { let f = D.faults disk.old in let s = D.stops disk.old in
-            Tally f s (D.faults disk.new) (D.stops disk.new) result }
-        ensures causes { let f = D.faults disk.old in let f' = D.faults disk.new in
-            let lane = D.lane_of disk.new (cut_lane self.old.log reclaim) in
-            D.tells → Causes (D.faultless disk.old) (has_stopped lane.stop) f f' result }
-        ensures faultless { let f = D.faults disk.old in
-            StaysFaultless (D.faultless disk.old) (D.faultless disk.new) f (D.faults disk.new) }
-        ensures others { D.tells →
-            (n : ℕ) → AwayFrom self.old.log.lane n → D.lane_of disk.new n ≡ D.lane_of disk.old n }
+        ensures uses { let lane = cut_lane self.old.log reclaim in
+            UsesEnd D.tells D.faultless D.lane_of D.faults D.stops lane self.old self.new disk.old disk.new result }
     {
         if self.log.is_broken() {
             return Err(LogFault::Reopen);
@@ -488,23 +419,13 @@ impl Pubend {
         fresh: &Piece<K>,
     ) -> Result<(), LogFault>
         requires news { IsNews self.old.log.state entry.now fresh.now }
-        requires stands { D.tells → IsReady self.old.log (lanes_at (D.lane_of disk.old) self.old.log.lane) }
+        requires stands { IsReadyOn D.tells D.lane_of self.old.log disk.old }
         ensures end { Leaves self.old (grown entry.now self.old) (broken_end self.old) self.new result }
-        ensures goes_on { OnOk result
-            ((self.new.log.lane ≡ self.old.log.lane) × (self.new.log.broken ≡ self.old.log.broken)) }
         ensures lanes { let l = self.old.log in let before = lanes_at (D.lane_of disk.old) l.lane in
             D.tells → Appends l (Some entry.now) before (lanes_at (D.lane_of disk.new) l.lane) result }
         ensures reopen { IsErrOf result LogFault.Reopen ↔ (self.old.log.broken ≡ true) }
-        ensures idle { IsErrOf result LogFault.Reopen → disk.new ≡ disk.old }
-        ensures tally { let f = D.faults disk.old in let s = D.stops disk.old in
-            Tally f s (D.faults disk.new) (D.stops disk.new) result }
-        ensures causes { let f = D.faults disk.old in let f' = D.faults disk.new in
-            let lane = D.lane_of disk.new (present_lane self.old.log) in
-            D.tells → Causes (D.faultless disk.old) (has_stopped lane.stop) f f' result }
-        ensures faultless { let f = D.faults disk.old in
-            StaysFaultless (D.faultless disk.old) (D.faultless disk.new) f (D.faults disk.new) }
-        ensures others { D.tells →
-            (n : ℕ) → AwayFrom self.old.log.lane n → D.lane_of disk.new n ≡ D.lane_of disk.old n }
+        ensures uses { let lane = present_lane self.old.log in
+            UsesEnd D.tells D.faultless D.lane_of D.faults D.stops lane self.old self.new disk.old disk.new result }
     {
         if self.log.is_broken() {
             return Err(LogFault::Reopen);
