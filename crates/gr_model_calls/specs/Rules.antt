@@ -119,8 +119,6 @@ pub record NewTicks (net : Net) (p b : ℕ) (piece : Known) (v : View) (log : Lo
   pub sent_is : (c : ℕ) → IsChild net p b c → HasKnown (λ t. if is_A (want_at net p b v c t) then Q
       else pass net p c t (new_K (known_at v.know t) (known_at piece t))) (sent c)
   pub frames : o.frames ≡ frames_down v.joins net p b sent
-  -- A child that is sent nothing gets no frame.
-  pub none : (c : ℕ) → IsChild net p b c → ((t : ℕ) → known_at (sent c) t ≡ Q) → know_frames v.joins b c p (sent c) ≡ []
   -- What a child asked is done where it was sent something.
   pub wants : (c : ℕ) → IsChild net p b c → HasWanted (λ t. if is_C (want_at net p b v c t)
       && not (is_Q (known_at (sent c) t)) then N else want_at net p b v c t) (wants_from net p b o.view c)

@@ -10,7 +10,6 @@ use Rattle.gr_curio.specs.declared.values.Q3.{Q3}
 use Rattle.gr_curio.specs.declared.values.Q3.TheVariants.{N, C, A}
 use Rattle.gr_curio.specs.declared.asks.Moment.TheVariants.{Never, At}
 use Rattle.gr_frame.specs.declared.Frame.{Frame}
-use Rattle.gr_frame.specs.Bytes.{cut_frames}
 use Rattle.gr_tick.specs.Runs.{AreRuns, IsNone, first_bottom_from, zip_runs, points}
 use Rattle.gr_know.specs.Values.{Known, known_at, is_Q, join_K, same_K}
 use Rattle.gr_curio.specs.Values.{Wanted, wanted_at, asked_at, is_C, is_A, is_outstanding}
@@ -21,7 +20,7 @@ use Rattle.gr_model.specs.Tree.{IsDistinct, IsPlace}
 use Rattle.gr_model_calls.specs.Truth.{Facts, KnowsTruth, WantsTruth, AllWantTruth}
 use Rattle.gr_model_calls.specs.Fits.{ViewTrue}
 use Rattle.gr_model_calls.specs.Rules.{IsChild, wants_from, want_at, Moves, Forgets, Knows, event_of, DeliversOn, NewTicks, ChildAsks, Asks, wanted_by_age, SendsExpect, Expects}
-use Rattle.gr_tick.proofs.RunLaws.{runs_equal, AreRunsOf, first_bottom_from-is, value_at-step}
+use Rattle.gr_tick.proofs.RunLaws.{AreRunsOf, first_bottom_from-is, value_at-step}
 use Rattle.gr_model_calls.proofs.calls.Told.{data_ticks_rise, data_ticks_in, data_ticks_out}
 use Rattle.gr_model_calls.proofs.calls.CallTruth.{IsWanted, A_is, expect_wanted, new_ticks-is, forward-is, quenched-is, finished-is, joined-is, learn_wants, done_runs, done_values, learned_horizon, curiosity_wants}
 use Rattle.gr_model_calls.proofs.asks.CallTicks.{IsTrimmed, trimmed-is, due-at, noted-at, upward-at, wake_wanted, wake_points}
@@ -138,11 +137,6 @@ knows_by net f p b at know u r a e =
 
 -- New ticks
 
--- where nothing stands no frame is made
-nothing_sent : (js : Joins) (b c p : ℕ) (x : Known) → AreRuns Q x → ((t : ℕ) → known_at x t ≡ Q) → know_frames js b c p x ≡ []
-unfolding cut_frames
-nothing_sent js b c p x r h = ap (know_frames js b c p) (runs_equal Q 1 1 x [] r tt h)
-
 -- learning a piece obeys the rule of new ticks
 pub new_ticks_rule : (net : Net) (f : Facts) (p b : ℕ) (piece : Known) (v : View) (log : Log) → IsPlace net p b → IsDistinct (net.children p b) → ViewTrue net f p b v → KnowsTruth net f p b piece → NewTicks net p b piece v log (learn net p b piece v log)
 unfolding learn
@@ -165,7 +159,6 @@ new_ticks_rule net f p b piece v log place distinct h k =
       sent = λ c. forward net p c (wants_from net p b v c) new;
       sent_is = λ c m. record { runs = (sends c m).runs; each = λ t. (sends c m).same_at t ∙ ap (λ x. if is_A (want_at net p b v c t) then Q else pass net p c t x) (n.same_at t) };
       frames = forwarded_by_turn v.joins net p b new (net.children p b) v.wants ∙ turns_by_child (λ c w. know_frames v.joins b c p (forward net p c w new)) (net.children p b) v.wants long distinct;
-      none = λ c m h. nothing_sent v.joins b c p (forward net p c (wants_from net p b v c) new) (sends c m).runs h;
       wants = λ c m.
           let q = quenched-is (wants_from net p b v c) (forward net p c (wants_from net p b v c) new) (wants_true_at net f p (net.children p b) v.wants c h.wants m).runs (sends c m).runs in
           let e : get_or (kept_view net p b u).wants (place_of c (net.children p b)) [] ≡ still_wanted (wants_from net p b v c) (forward net p c (wants_from net p b v c) new) = ap (λ z. get_or z (place_of c (net.children p b)) []) i.wants ∙ quenched_by_child net p c new (net.children p b) v.wants long m in

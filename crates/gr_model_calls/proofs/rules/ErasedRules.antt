@@ -56,7 +56,6 @@ new_ticks_on net f g p b piece v log o a k x = record {
     each = λ t. y.each t ∙ ap (λ z. if is_A (want_at net p b v c t) then Q else z) (pass_agree net f g p c t (new_K (known_at v.know t) (known_at piece t)) (λ e z s. k t e (new_event (known_at v.know t) (known_at piece t) e z) s));
   };
   frames = x.frames;
-  none = x.none;
   wants = x.wants;
   all_wants = x.all_wants;
   asks = x.asks;
