@@ -1,4 +1,5 @@
 -- The rules, tick by tick: each call obeys one, and a rule leaves no choice
+pub mod Views
 pub mod CallRules
 pub mod HostRules
 pub mod Forgetting

@@ -20,7 +20,7 @@ use Rattle.gr_curio.specs.Values.{Wanted, Asked, wanted_at, asked_at, is_C, is_A
 use Rattle.gr_model.specs.Net.{Net, keeps_horizon, is_host, pass}
 use Rattle.gr_event.specs.Joins.{Joins, longer, has_joined}
 use Rattle.gr_model.specs.Broker.{View, Log, Outcome, max_tick, is_F, know_frames, expect_frame, up_frames}
-use Rattle.gr_model.specs.Broker.{with_joins, view_joined, with_join}
+use Rattle.gr_model.specs.Broker.{with_joins, view_joined, with_join, drops}
 use Rattle.gr_model.specs.Broker.{is_consolidated_by, any_C, data_count, place_of, delivery_lines, with_event}
 use Rattle.gr_model.specs.Broker.{with_mark, reclaims, cut_log_at}
 pub use Rattle.gr_model.specs.Broker.{unmoved, says}
@@ -57,6 +57,14 @@ want_at net p b v c t = wanted_at (wants_from net p b v c) t
 -- one curiosity is stored for each child
 abbrev pub HasAllWants : Net → ℕ → ℕ → View → Type 0
 HasAllWants net p b v = length v.wants ≡ length (net.children p b)
+
+-- A view that a broker may have, whatever its peers send: its runs are canonical, and it stores one curiosity for each
+-- child.
+pub record IsView (net : Net) (p b : ℕ) (v : View) : Type 0 where
+  pub know : AreRuns Q v.know
+  pub wants : (c : ℕ) → IsChild net p b c → AreRuns N (wants_from net p b v c)
+  pub all_wants : HasAllWants net p b v
+  pub asks : AreRuns Never v.asks
 
 -- What is kept
 
@@ -307,6 +315,17 @@ Comes net p from to now (body.Knowledge runs js) v log o =
     NewTicks net p to runs (with_joins v (longer v.joins js)) log o
 Comes net p from to now (body.Curiosity runs) v log o = ChildAsks net p to now from runs v log o
 Comes net p from to now (body.Expect tick) v log o = Expects net p to now tick v log o
+
+-- A frame that a broker may get, whatever its peers send: runs are canonical, and curiosity is that of a child.
+abbrev pub MayCome : Net → ℕ → ℕ → ℕ → Body → Type 0
+MayCome net p from to (body.Knowledge runs js) = AreRuns Q runs
+MayCome net p from to (body.Curiosity runs) = AreRuns N runs × IsChild net p to from
+MayCome net p from to (body.Expect tick) = Unit {0}
+
+-- knowledge is dropped where its joins split from those that are held, or it clashes
+abbrev pub is_dropped : View → Body → Bool
+is_dropped v (body.Knowledge runs js) = drops v runs js
+is_dropped v _ = false
 
 -- The rules leave nothing open: of one view, one log and one moment, two outcomes by one rule are the same.
 pub record RulesDetermine (net : Net) (p b : ℕ) : Type 0 where

@@ -8,3 +8,4 @@ pub mod headline
 pub mod server
 pub mod order
 pub mod joins
+pub mod alone

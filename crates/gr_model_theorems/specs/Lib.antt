@@ -16,3 +16,4 @@ pub mod Forgets
 pub mod Lanes
 pub mod OrderedServed
 pub mod Joint
+pub mod Alone

@@ -15,7 +15,7 @@ ghost use Rattle.gr_know.specs.Clash.{IsLeastClash};
 ghost use Rattle.gr_sched.specs.declared.step.Line.{Line};
 ghost use Rattle.gr_model.specs.Net.{Net};
 ghost use Rattle.gr_model.specs.Tree.{IsNet};
-ghost use Rattle.gr_model.specs.Broker.{Log};
+ghost use Rattle.gr_model.specs.Broker.{Log, View, started};
 ghost use Rattle.gr_model.specs.World.{World, start, report_of};
 ghost use Rattle.gr_model_calls.specs.OneNet.{last_net};
 ghost use Rattle.gr_model.specs.Arrivals.{Arrival};
@@ -26,7 +26,8 @@ ghost use Rattle.gr_model_calls.specs.Fits.{StepIn, WorldFits, history_of};
 ghost use Rattle.gr_model_theorems.specs.Found.{AreReopened};
 ghost use Rattle.gr_model_theorems.specs.Order.{FramesSent};
 ghost use Rattle.gr_model_theorems.specs.Replies.{Replied};
-ghost use Rattle.gr_model_calls.specs.Rules.{RulesDetermine};
+ghost use Rattle.gr_model_calls.specs.Rules.{RulesDetermine, IsView};
+ghost use Rattle.gr_model_theorems.specs.Alone.{ObeysAlone};
 ghost use Rattle.gr_model_theorems.specs.Obeys.{CallsObey};
 ghost use Rattle.gr_model_theorems.specs.ByRules.{ScheduleByRules};
 ghost use Rattle.gr_model_theorems.specs.Settles.{SweepSettles, AllGot};
@@ -138,6 +139,19 @@ pub fn calls_obey_rules()
 /// The rules leave nothing open: what a call does is the only outcome by its rule, of one view, one log and one moment.
 pub fn rules_determine()
     ensures { (net : Net) (p b : ℕ) → IsNet net → p < net.publishers → b < net.brokers → RulesDetermine net p b }
+{}
+
+/// A broker by itself, whatever its peers send, among honest ones or not. Of every view that it may have, each of its
+/// calls leaves, tells and sends what the rule of the call says of that view, on the net of the joins that the view
+/// shows, and nothing else does; and the view that it leaves is one that a broker may have again. A view is one that a
+/// broker may have where its runs are canonical and one curiosity is stored for each child: nothing is asked of what the
+/// view says, nor of the log. A broker starts with such a view. The runs of frames are canonical, as decoded bytes are,
+/// and curiosity comes from a child; knowledge that clashes, or whose joins split from those held, is dropped, and
+/// nothing happens.
+pub fn a_broker_alone()
+    ensures calls { (net : Net) (p b now : ℕ) (v : View) (log : Log) → IsNet net → 1 ≤ net.quiet →
+        p < net.publishers → b < net.brokers → IsView net p b v → ObeysAlone net p b now v log }
+    ensures starts { (net : Net) (p b : ℕ) (log : Log) → IsView net p b (started net p b log) }
 {}
 
 /// Of every schedule the rules allow exactly one report and leave exactly one world, the machine's: no other report, by

@@ -19,7 +19,7 @@ use Rattle.gr_tick.proofs.RunLaws.{AreRunsOf, zip_runs-is}
 use Rattle.gr_curio.proofs.ValueLaws.{moment_decides}
 use Rattle.gr_model_calls.proofs.calls.Pieces.{IsLowered, forgotten-is}
 pub use Rattle.gr_model_calls.proofs.calls.CallTruth.{due-at, noted-at, upward-at, wake_wanted}
-use Rattle.gr_model_calls.proofs.calls.CallTruth.{done_runs, done_values}
+use Rattle.gr_model_calls.proofs.calls.CallTruth.{want_runs, done_runs, done_values}
 use Rattle.gr_curio.specs.declared.asks.Moment.TheVariants.{Never, At}
 use Rattle.gr_curio.specs.declared.asks.Moment.{Moment}
 
@@ -139,7 +139,7 @@ A_if false x = refl
 pub wake_ticks : (net : Net) (f : Facts) (p b now : ℕ) (v : View) (log : Log) → ViewTrue net f p b v → WakeTicks net p b now v (wake_below net p b now v log)
 unfolding wake_below asking
 wake_ticks net f p b now v log h =
-    let d = due-at now net.retry v.know v.asks (wanted_at_wake net (keeps_horizon net p b) now v) (wake_points net now v) (wake_wanted net f p b now v h (keeps_horizon net p b)) in
+    let d = due-at now net.retry v.know v.asks (wanted_at_wake net (keeps_horizon net p b) now v) (wake_points net now v) (wake_wanted net p b now v (want_runs net f p (net.children p b) v.wants h.wants) (keeps_horizon net p b)) in
     let done = consolidated (keeps_horizon net p b) v.horizon v.wants in
     let dr = done_runs net f p b v.horizon v.wants h.wants in
     let u = upward-at done (wake_asked net p b now v) dr d.runs in

@@ -1,6 +1,6 @@
 -- Each call of a broker keeps what it knows, wants and sends true
 use Rattle.std.proofs.Common.{◌≡◌, ◌≢◌, inl, inr, ◌⊎◌, ⊎_elim, ℕ, suc, ◌+◌, ◌-◌, ◌≤◌, ◌<◌, Bool, true, false, not, ◌&&◌, ◌||◌, List, [], ◌∷◌, ◌++◌, map, set, get_or, refl, sym, ap, ap₂, ◌∙◌, subst, Option, Some, None, arith, le_trans, le_refl}
-use Rattle.std.specs.Prelude.{nat_eq, nat_le, nat_lt, if◌then◌else◌}
+use Rattle.std.specs.Prelude.{zero, nat_eq, nat_le, nat_lt, if◌then◌else◌}
 use Rattle.std.specs.List.{list_any}
 use Rattle.std.proofs.lemmas.Bool.{cases_Bool, cases_lt, false≢true, true≢false, eqb-true, eq-eqb, or_left, or_right, leb-true, ltb-true, le-leb, lt-leb, lt-ltb, le-ltb}
 use Rattle.gr_know.specs.declared.values.K.{K}
@@ -54,6 +54,35 @@ AllWantTruth-later net f g p [] [] l h = tt
 AllWantTruth-later net f g p (c ∷ cs) (w ∷ ws) l h = (WantsTruth-later net f g p c w l h.0, AllWantTruth-later net f g p cs ws l h.1)
 AllWantTruth-later net f g p [] (w ∷ ws) l h = absurd h
 AllWantTruth-later net f g p (c ∷ cs) [] l h = absurd h
+
+-- something canonical is stored of each child
+abbrev pub AllWantRuns : List ℕ → List Wanted → Type 0
+AllWantRuns [] [] = Unit {0}
+AllWantRuns (c ∷ cs) (w ∷ ws) = AreRuns N w × AllWantRuns cs ws
+AllWantRuns [] (w ∷ ws) = ⊥
+AllWantRuns (c ∷ cs) [] = ⊥
+
+-- so it is where what is stored is true
+pub want_runs : (net : Net) (f : Facts) (p : ℕ) (cs : List ℕ) (ws : List Wanted) → AllWantTruth net f p cs ws → AllWantRuns cs ws
+want_runs net f p [] [] a = tt
+want_runs net f p [] (w ∷ ws) a = absurd a
+want_runs net f p (c ∷ cs) [] a = absurd a
+want_runs net f p (c ∷ cs) (w ∷ ws) a = (a.0.runs, want_runs net f p cs ws a.1)
+
+-- what is stored at a place is canonical, and all is still where something canonical is put there
+pub get_runs : (cs : List ℕ) (ws : List Wanted) (i : ℕ) → AllWantRuns cs ws → AreRuns N (get_or ws i [])
+get_runs [] [] i a = tt
+get_runs [] (w ∷ ws) i a = absurd a
+get_runs (c ∷ cs) [] i a = absurd a
+get_runs (c ∷ cs) (w ∷ ws) zero a = a.0
+get_runs (c ∷ cs) (w ∷ ws) (suc i) a = get_runs cs ws i a.1
+
+pub set_runs : (cs : List ℕ) (ws : List Wanted) (i : ℕ) (x : Wanted) → AllWantRuns cs ws → AreRuns N x → AllWantRuns cs (set ws i x)
+set_runs [] [] i x a r = tt
+set_runs [] (w ∷ ws) i x a r = absurd a
+set_runs (c ∷ cs) [] i x a r = absurd a
+set_runs (c ∷ cs) (w ∷ ws) zero x a r = (r, a.1)
+set_runs (c ∷ cs) (w ∷ ws) (suc i) x a r = (a.0, set_runs cs ws i x a.1 r)
 
 -- learning: the join with a true piece
 pub joined_true : (net : Net) (f : Facts) (p b : ℕ) (know piece : Known) → KnowsTruth net f p b know → KnowsTruth net f p b piece → KnowsTruth net f p b (zip_runs Q Q Q same_K join_K know piece)
@@ -127,10 +156,14 @@ keeps_or_child net p b ws h =
       | inr e ↦ or_right (keeps_horizon net p b) (not_empty ws) (h e)
     ]
 
-some_wants : (net : Net) (f : Facts) (p : ℕ) (cs : List ℕ) (ws : List Wanted) → AllWantTruth net f p cs ws → is_empty cs ≡ false → not_empty ws ≡ true
-some_wants net f p [] ws a e = absurd (true≢false e)
-some_wants net f p (c ∷ cs) [] a e = absurd a
-some_wants net f p (c ∷ cs) (w ∷ ws) a e = refl
+some_wants : (cs : List ℕ) (ws : List Wanted) → AllWantRuns cs ws → is_empty cs ≡ false → not_empty ws ≡ true
+some_wants [] ws a e = absurd (true≢false e)
+some_wants (c ∷ cs) [] a e = absurd a
+some_wants (c ∷ cs) (w ∷ ws) a e = refl
+
+-- what a broker consolidates, whatever the horizon, is an acknowledgement exactly at its consolidated ticks
+pub done-is : (net : Net) (p b h : ℕ) (ws : List Wanted) → AllWantRuns (net.children p b) ws → AreRunsOf N (λ t. if is_consolidated_by (keeps_horizon net p b) h ws t then A else N) (consolidated (keeps_horizon net p b) h ws)
+done-is net p b h ws a = consolidated-is (keeps_horizon net p b) h ws (keeps_or_child net p b ws (some_wants (net.children p b) ws a))
 
 done_A : (b : Bool) → (if b then A else N) ≡ A → b ≡ true
 done_A true e = refl
@@ -146,7 +179,7 @@ A_is A h = refl
 pub done_true : (net : Net) (f : Facts) (p b h : ℕ) (ws : List Wanted) → IsPlace net p b → AllWantTruth net f p (net.children p b) ws → IsHorizon net f b h → WantsTruth net f p b (consolidated (keeps_horizon net p b) h ws)
 done_true net f p b h ws place a hor =
     WantsTruth-by net f p b (λ t. if is_consolidated_by (keeps_horizon net p b) h ws t then A else N) (consolidated (keeps_horizon net p b) h ws)
-    (consolidated-is (keeps_horizon net p b) h ws (keeps_or_child net p b ws (some_wants net f p (net.children p b) ws a)))
+    (done-is net p b h ws (want_runs net f p (net.children p b) ws a))
     (λ t e. consolidated_true net f p b h t ws place a hor.settled hor.here (done_A (is_consolidated_by (keeps_horizon net p b) h ws t) e))
 
 -- and F at these ticks is true
@@ -280,6 +313,13 @@ forward_wants_true net f p b new (c ∷ cs) (w ∷ ws) place k m a = (
   quenched_true net f p c w (forward net p c w new) a.0 (forward_true net f p b c w new place (m c (or_left (nat_eq c c) (list_any (λ x. nat_eq x c) cs) (eq-eqb c c refl))) a.0.runs k).runs,
   forward_wants_true net f p b new cs ws place k (λ d e. m d (or_right (nat_eq c d) (list_any (λ x. nat_eq x d) cs) e)) a.1,
 )
+
+-- forwarding keeps what is stored canonical
+pub forward_runs : (net : Net) (p : ℕ) (new : Known) (cs : List ℕ) (ws : List Wanted) → AreRuns Q new → AllWantRuns cs ws → AllWantRuns cs (forward_wants net p new cs ws)
+forward_runs net p new [] [] r a = tt
+forward_runs net p new [] (w ∷ ws) r a = absurd a
+forward_runs net p new (c ∷ cs) [] r a = absurd a
+forward_runs net p new (c ∷ cs) (w ∷ ws) r a = ((quenched-is w (forward net p c w new) a.0 (forward-is net p c w new a.0 r).runs).runs, forward_runs net p new cs ws r a.1)
 
 forward_frames_true : (net : Net) (f : Facts) (js : Joins) (p b : ℕ) (new : Known) (cs : List ℕ) (ws : List Wanted) → IsPlace net p b → KnowsTruth net f p b new → Holds f.joined js (HasEvent new) → ((c : ℕ) → list_any (λ x. nat_eq x c) cs ≡ true → list_any (λ x. nat_eq x c) (net.children p b) ≡ true) → AllWantTruth net f p cs ws → AllTrue net f p (forward_frames js net p b new cs ws)
 forward_frames_true net f js p b new [] [] place k held m a = tt
@@ -480,11 +520,11 @@ upto_step top t n = same_test (nat_le (suc t) top) (nat_le t top)
     (λ e. le-leb t top (omega (arith, leb-true (suc t) top e)))
     (λ e. let m : t ≡ top → ⊥ = λ g. n (ap suc g) in le-leb (suc t) top (omega (arith, leb-true t top e, m)))
 
-any_C-start : (net : Net) (f : Facts) (p : ℕ) (cs : List ℕ) (ws : List Wanted) → AllWantTruth net f p cs ws → any_C ws 0 ≡ false
-any_C-start net f p [] [] a = refl
-any_C-start net f p [] (w ∷ ws) a = absurd a
-any_C-start net f p (c ∷ cs) [] a = absurd a
-any_C-start net f p (c ∷ cs) (w ∷ ws) a = ap₂ (λ x y. x || y) (ap is_C (value_at-start N 1 w 0 a.0.runs (omega arith))) (any_C-start net f p cs ws a.1)
+any_C-start : (cs : List ℕ) (ws : List Wanted) → AllWantRuns cs ws → any_C ws 0 ≡ false
+any_C-start [] [] a = refl
+any_C-start [] (w ∷ ws) a = absurd a
+any_C-start (c ∷ cs) [] a = absurd a
+any_C-start (c ∷ cs) (w ∷ ws) a = ap₂ (λ x y. x || y) (ap is_C (value_at-start N 1 w 0 a.0 (omega arith))) (any_C-start cs ws a.1)
 
 any_C-step : (ws : List Wanted) (t : ℕ) → IsNone (suc t) (all_points ws) → any_C ws (suc t) ≡ any_C ws t
 any_C-step [] t n = refl
@@ -503,9 +543,9 @@ and_false true = refl
 and_false false = refl
 
 -- what is wanted at a wake is steady between these points
-pub wake_wanted : (net : Net) (f : Facts) (p b now : ℕ) (v : View) → ViewTrue net f p b v → (keeps : Bool) → IsWanted (wanted_at_wake net keeps now v) (all_points v.wants ++ (suc v.horizon ∷ (suc (now - net.idle) ∷ (suc (now - net.gap) ∷ (top_of v.know ∷ [])))))
-wake_wanted net f p b now v h keeps = record {
-  start = ap₂ (λ x y. x || y) (any_C-start net f p (net.children p b) v.wants h.wants) (ap₂ (λ x y. keeps && x && y) (le-ltb v.horizon 0 (omega arith)) refl ∙ rw and_false refl);
+pub wake_wanted : (net : Net) (p b now : ℕ) (v : View) → AllWantRuns (net.children p b) v.wants → (keeps : Bool) → IsWanted (wanted_at_wake net keeps now v) (all_points v.wants ++ (suc v.horizon ∷ (suc (now - net.idle) ∷ (suc (now - net.gap) ∷ (top_of v.know ∷ [])))))
+wake_wanted net p b now v a keeps = record {
+  start = ap₂ (λ x y. x || y) (any_C-start (net.children p b) v.wants a) (ap₂ (λ x y. keeps && x && y) (le-ltb v.horizon 0 (omega arith)) refl ∙ rw and_false refl);
   step = λ t n.
       let k = IsNone-append (suc t) (all_points v.wants) (suc v.horizon ∷ (suc (now - net.idle) ∷ (suc (now - net.gap) ∷ (top_of v.know ∷ [])))) n in
       ap₂ (λ x y. x || y) (any_C-step v.wants t k.0)
@@ -522,12 +562,12 @@ pub wake_below_true : (net : Net) (f : Facts) (p b now : ℕ) (v : View) (log : 
 unfolding wake_below
 wake_below_true net f p b now v log place h =
     asking_true net f p b now (wanted_at_wake net (keeps_horizon net p b) now v)
-    (all_points v.wants ++ (suc v.horizon ∷ (suc (now - net.idle) ∷ (suc (now - net.gap) ∷ (top_of v.know ∷ []))))) v log place h (wake_wanted net f p b now v h (keeps_horizon net p b))
+    (all_points v.wants ++ (suc v.horizon ∷ (suc (now - net.idle) ∷ (suc (now - net.gap) ∷ (top_of v.know ∷ []))))) v log place h (wake_wanted net p b now v (want_runs net f p (net.children p b) v.wants h.wants) (keeps_horizon net p b))
 
 -- what an expected tick makes wanted changes only at points of what children want, at the horizon and at the tick
-pub expect_wanted : (net : Net) (f : Facts) (p b tick : ℕ) (v : View) → ViewTrue net f p b v → (keeps : Bool) → IsWanted (λ t. any_C v.wants t || (keeps && nat_lt v.horizon t && nat_le t tick)) (all_points v.wants ++ (suc v.horizon ∷ (suc tick ∷ [])))
-expect_wanted net f p b tick v h keeps = record {
-  start = ap₂ (λ x y. x || y) (any_C-start net f p (net.children p b) v.wants h.wants) (ap₂ (λ x y. keeps && x && y) (le-ltb v.horizon 0 (omega arith)) refl ∙ rw and_false refl);
+pub expect_wanted : (net : Net) (p b tick : ℕ) (v : View) → AllWantRuns (net.children p b) v.wants → (keeps : Bool) → IsWanted (λ t. any_C v.wants t || (keeps && nat_lt v.horizon t && nat_le t tick)) (all_points v.wants ++ (suc v.horizon ∷ (suc tick ∷ [])))
+expect_wanted net p b tick v a keeps = record {
+  start = ap₂ (λ x y. x || y) (any_C-start (net.children p b) v.wants a) (ap₂ (λ x y. keeps && x && y) (le-ltb v.horizon 0 (omega arith)) refl ∙ rw and_false refl);
   step = λ t n.
       let k = IsNone-append (suc t) (all_points v.wants) (suc v.horizon ∷ (suc tick ∷ [])) n in
       ap₂ (λ x y. x || y) (any_C-step v.wants t k.0) (ap₂ (λ x y. keeps && x && y) (above_step v.horizon t k.1.0) (upto_step tick t k.1.1.0));
@@ -552,7 +592,7 @@ unfolding expect
 expect_true net f p b now tick v log place h s =
     let ps = all_points v.wants ++ (suc v.horizon ∷ (suc tick ∷ [])) in
     let wanted = λ (t : ℕ). any_C v.wants t || (keeps_horizon net p b && nat_lt v.horizon t && nat_le t tick) in
-    let o = asking_true net f p b now wanted ps v log place h (expect_wanted net f p b tick v h (keeps_horizon net p b)) in
+    let o = asking_true net f p b now wanted ps v log place h (expect_wanted net p b tick v (want_runs net f p (net.children p b) v.wants h.wants) (keeps_horizon net p b)) in
     record { view = o.view; frames = AllTrue-append net f p (asking net p b now wanted ps v log).frames (expect_frames p b tick (net.children p b) v.wants) o.frames (expect_frames_true net f p b tick (net.children p b) v.wants s) }
 
 -- Curiosity
@@ -756,8 +796,8 @@ learn_wants net f p b piece v place h i = forward_wants_true net f p b (new_tick
 
 -- the consolidated ticks are canonical, whatever the horizon
 pub done_runs : (net : Net) (f : Facts) (p b h : ℕ) (ws : List Wanted) → AllWantTruth net f p (net.children p b) ws → AreRuns N (consolidated (keeps_horizon net p b) h ws)
-done_runs net f p b h ws a = (consolidated-is (keeps_horizon net p b) h ws (keeps_or_child net p b ws (some_wants net f p (net.children p b) ws a))).runs
+done_runs net f p b h ws a = (done-is net p b h ws (want_runs net f p (net.children p b) ws a)).runs
 
 -- what a broker consolidates is an acknowledgement exactly at its consolidated ticks
 pub done_values : (net : Net) (f : Facts) (p b h : ℕ) (ws : List Wanted) → AllWantTruth net f p (net.children p b) ws → (t : ℕ) → wanted_at (consolidated (keeps_horizon net p b) h ws) t ≡ (if is_consolidated_by (keeps_horizon net p b) h ws t then A else N)
-done_values net f p b h ws a = (consolidated-is (keeps_horizon net p b) h ws (keeps_or_child net p b ws (some_wants net f p (net.children p b) ws a))).same_at
+done_values net f p b h ws a = (done-is net p b h ws (want_runs net f p (net.children p b) ws a)).same_at

@@ -12,7 +12,7 @@ use Rattle.gr_frame.specs.declared.Frame.{Frame}
 use Rattle.gr_tick.specs.Runs.{AreRuns, points, IsSteady, IsPast}
 use Rattle.gr_know.specs.Values.{Known, known_at, is_Q, same_K}
 use Rattle.gr_curio.specs.Values.{Wanted, wanted_at, asked_at, is_C, is_A, same_Q3, is_outstanding}
-use Rattle.gr_event.specs.Joins.{Joins, longer}
+use Rattle.gr_event.specs.Joins.{Joins}
 use Rattle.gr_model.specs.Net.{Net, is_host, keeps_horizon, pass}
 use Rattle.gr_model.specs.Broker.{View, Log, Outcome, want_frames, know_frames, all_A, consolidated, horizon_if, is_reached, is_consolidated_by, finished, due, noted, up_frames, place_of, passed, answer, answers, curious, stored, acknowledged, curiosity, head}
 use Rattle.gr_frame.specs.Bytes.{head_size, cut_frames, known_run_size, wanted_run_size}
@@ -22,7 +22,7 @@ use Rattle.gr_model_calls.specs.Fits.{ViewTrue}
 use Rattle.gr_tick.proofs.RunLaws.{AreRunsOf, tabulate-is, zip_runs-is, IsNone-append, IsPast-append, value_at-step, value_at-past, value_at-start}
 use Rattle.gr_know.proofs.ValueLaws.{K_decides}
 use Rattle.gr_curio.proofs.ValueLaws.{Q3_decides}
-use Rattle.gr_model_calls.proofs.calls.CallTruth.{IsWanted, finished-is, curiosity_wants, done_runs, done_values}
+use Rattle.gr_model_calls.proofs.calls.CallTruth.{AllWantRuns, IsWanted, finished-is, curiosity_wants, done_runs, done_values}
 use Rattle.gr_frame.specs.declared.Body.{Body}
 use Rattle.gr_frame.specs.declared.Body.TheVariants as body
 use Rattle.gr_model_calls.proofs.calls.Pieces.{AllParts, cut_frames-parts}
@@ -83,9 +83,19 @@ not_all_A (d ∷ cs) (w ∷ ws) c t l m h =
       | inr e ↦ ap (λ q. is_A (wanted_at w t) && q) (not_all_A cs ws c t l (subst (λ q. (q || list_any (λ y. nat_eq y c) cs) ≡ true) e m) (subst (λ q. is_A (wanted_at (get_or (w ∷ ws) (if q then 0 else suc (place_of c cs)) []) t) ≡ false) e h)) ∙ and_right (is_A (wanted_at w t)) false refl
     ]
 
+-- where what is stored is canonical, something is stored of each child
+pub long_of : (cs : List ℕ) (ws : List Wanted) → AllWantRuns cs ws → SameLength cs ws
+long_of [] [] a = tt
+long_of [] (w ∷ ws) a = absurd a
+long_of (c ∷ cs) [] a = absurd a
+long_of (c ∷ cs) (w ∷ ws) a = long_of cs ws a.1
+
 -- a tick where a child has no A is not consolidated
+pub not_consolidated : (net : Net) (p b c t h : ℕ) (ws : List Wanted) → SameLength (net.children p b) ws → list_any (λ y. nat_eq y c) (net.children p b) ≡ true → is_A (wanted_at (get_or ws (place_of c (net.children p b)) []) t) ≡ false → is_consolidated_by (keeps_horizon net p b) h ws t ≡ false
+not_consolidated net p b c t h ws l m n = ap (λ q. nat_le 1 t && is_reached (horizon_if (keeps_horizon net p b) h) t && q) (not_all_A (net.children p b) ws c t l m n) ∙ and_right (nat_le 1 t && is_reached (horizon_if (keeps_horizon net p b) h) t) false refl
+
 pub not_settled : (net : Net) (f : Facts) (p b c t h : ℕ) (ws : List Wanted) → AllWantTruth net f p (net.children p b) ws → list_any (λ y. nat_eq y c) (net.children p b) ≡ true → is_A (wanted_at (get_or ws (place_of c (net.children p b)) []) t) ≡ false → is_consolidated_by (keeps_horizon net p b) h ws t ≡ false
-not_settled net f p b c t h ws a m n = ap (λ q. nat_le 1 t && is_reached (horizon_if (keeps_horizon net p b) h) t && q) (not_all_A (net.children p b) ws c t (same_length net f p (net.children p b) ws a) m n) ∙ and_right (nat_le 1 t && is_reached (horizon_if (keeps_horizon net p b) h) t) false refl
+not_settled net f p b c t h ws a m n = not_consolidated net p b c t h ws (same_length net f p (net.children p b) ws a) m n
 
 -- what is stored of each child is true of it
 pub wants_true_at : (net : Net) (f : Facts) (p : ℕ) (cs : List ℕ) (ws : List Wanted) (c : ℕ) → AllWantTruth net f p cs ws → list_any (λ x. nat_eq x c) cs ≡ true → WantsTruth net f p c (get_or ws (place_of c cs) [])

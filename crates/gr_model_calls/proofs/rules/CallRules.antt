@@ -13,18 +13,17 @@ use Rattle.gr_frame.specs.declared.Frame.{Frame}
 use Rattle.gr_tick.specs.Runs.{AreRuns, IsNone, first_bottom_from, zip_runs, points}
 use Rattle.gr_know.specs.Values.{Known, known_at, is_Q, join_K, same_K}
 use Rattle.gr_curio.specs.Values.{Wanted, wanted_at, asked_at, is_C, is_A, is_outstanding}
-use Rattle.gr_event.specs.Joins.{Joins, longer}
+use Rattle.gr_event.specs.Joins.{Joins}
 use Rattle.gr_model.specs.Net.{Net, is_host, keeps_horizon, pass, wanted_below}
 use Rattle.gr_model.specs.Broker.{View, Log, know_frames, expect_frame, is_consolidated_by, any_C, all_points, consolidated, finished, is_F, kept_view, horizon_after, data_ticks, delivery_lines, new_ticks, forward, still_wanted, forward_frames, forward_wants, learn, due, noted, upward, acknowledged, answer, answers, curious, stored, curiosity, asking, covers, expect_frames, expect, wake_below, wanted_at_wake, place_of}
-use Rattle.gr_model.specs.Tree.{IsDistinct, IsPlace}
-use Rattle.gr_model_calls.specs.Truth.{Facts, KnowsTruth, WantsTruth, AllWantTruth}
-use Rattle.gr_model_calls.specs.Fits.{ViewTrue}
-use Rattle.gr_model_calls.specs.Rules.{IsChild, wants_from, want_at, Moves, Forgets, Knows, event_of, DeliversOn, NewTicks, ChildAsks, Asks, wanted_by_age, SendsExpect, Expects}
+use Rattle.gr_model.specs.Tree.{IsDistinct}
+use Rattle.gr_model_calls.specs.Rules.{IsView, IsChild, wants_from, want_at, Moves, Forgets, Knows, event_of, DeliversOn, NewTicks, ChildAsks, Asks, wanted_by_age, SendsExpect, Expects}
 use Rattle.gr_tick.proofs.RunLaws.{AreRunsOf, first_bottom_from-is, value_at-step}
 use Rattle.gr_model_calls.proofs.calls.Told.{data_ticks_rise, data_ticks_in, data_ticks_out}
-use Rattle.gr_model_calls.proofs.calls.CallTruth.{IsWanted, A_is, expect_wanted, new_ticks-is, forward-is, quenched-is, finished-is, joined-is, learn_wants, done_runs, done_values, learned_horizon, curiosity_wants}
+use Rattle.gr_model_calls.proofs.calls.CallTruth.{AllWantRuns, set_runs, forward_runs, done-is, IsWanted, A_is, expect_wanted, new_ticks-is, forward-is, quenched-is, finished-is, joined-is, learned_horizon}
 use Rattle.gr_model_calls.proofs.asks.CallTicks.{IsTrimmed, trimmed-is, due-at, noted-at, upward-at, wake_wanted, wake_points}
-use Rattle.gr_model_calls.proofs.rules.Answering.{SameLength, same_length, set_here, place_apart, wants_true_at, acknowledged-is, answers-is, stored-is, curiosity_wanted, not_settled}
+use Rattle.gr_model_calls.proofs.rules.Answering.{SameLength, long_of, set_here, place_apart, acknowledged-is, answers-is, stored-is, curiosity_wanted, not_consolidated}
+use Rattle.gr_model_calls.proofs.rules.Views.{apart, wants_runs, long_as}
 use Rattle.gr_model_calls.proofs.rules.Forgetting.{forgets_by}
 
 -- One child after another
@@ -39,14 +38,6 @@ by_turn g (c ∷ cs) (w ∷ ws) = g c w ++ by_turn g cs ws
 pub flat_map_same : (f g : ℕ → List Frame) (cs : List ℕ) → ((d : ℕ) → list_any (λ x. nat_eq x d) cs ≡ true → f d ≡ g d) → flat_map f cs ≡ flat_map g cs
 flat_map_same f g [] h = refl
 flat_map_same f g (c ∷ cs) h = ap₂ (λ x y. x ++ y) (h c (or_left (nat_eq c c) (list_any (λ x. nat_eq x c) cs) (eq-eqb c c refl))) (flat_map_same f g cs (λ d m. h d (or_right (nat_eq c d) (list_any (λ x. nat_eq x d) cs) m)))
-
--- one that is not in a list differs from each in it
-pub apart : (c d : ℕ) (cs : List ℕ) → list_any (λ y. nat_eq y c) cs ≡ false → list_any (λ x. nat_eq x d) cs ≡ true → nat_eq c d ≡ false
-apart c d cs n m =
-    elim (cases_Bool (nat_eq c d)) [
-      | inl e ↦ absurd (both_ways (list_any (λ y. nat_eq y c) cs) n (subst (λ x. list_any (λ y. nat_eq y x) cs ≡ true) (sym (eqb-true c d e)) m))
-      | inr e ↦ e
-    ]
 
 turns_by_child : (g : ℕ → Wanted → List Frame) (cs : List ℕ) (ws : List Wanted) → SameLength cs ws → IsDistinct cs → by_turn g cs ws ≡ flat_map (λ c. g c (get_or ws (place_of c cs) [])) cs
 turns_by_child g [] ws l d = refl
@@ -75,12 +66,6 @@ quenched_by_child net p c new (d ∷ cs) (w ∷ ws) l m =
       | inl e ↦ rw e (ap (λ x. still_wanted w (forward net p x w new)) (eqb-true d c e))
       | inr e ↦ rw e (quenched_by_child net p c new cs ws l (subst (λ q. (q || list_any (λ x. nat_eq x c) cs) ≡ true) e m))
     ]
-
-long_as : (net : Net) (f : Facts) (p : ℕ) (cs : List ℕ) (ws : List Wanted) → AllWantTruth net f p cs ws → length ws ≡ length cs
-long_as net f p [] [] a = refl
-long_as net f p [] (w ∷ ws) a = absurd a
-long_as net f p (c ∷ cs) [] a = absurd a
-long_as net f p (c ∷ cs) (w ∷ ws) a = ap suc (long_as net f p cs ws a.1)
 
 -- The horizon and the lines
 
@@ -119,17 +104,18 @@ F_if true x = refl
 F_if false x = refl
 
 -- a view whose knowledge is made final at the consolidated ticks and trimmed
-knows_by : (net : Net) (f : Facts) (p b : ℕ) (at : ℕ → K) (know : Known) (u : View) → AreRunsOf Q at know → AllWantTruth net f p (net.children p b) u.wants → u.know ≡ finished know (consolidated (keeps_horizon net p b) u.horizon u.wants) → Knows net p b at (kept_view net p b u)
-knows_by net f p b at know u r a e =
+knows_by : (net : Net) (p b : ℕ) (at : ℕ → K) (know : Known) (u : View) → AreRunsOf Q at know → AllWantRuns (net.children p b) u.wants → u.know ≡ finished know (consolidated (keeps_horizon net p b) u.horizon u.wants) → Knows net p b at (kept_view net p b u)
+knows_by net p b at know u r a e =
     let done = consolidated (keeps_horizon net p b) u.horizon u.wants in
-    let fin = finished-is know done r.runs (done_runs net f p b u.horizon u.wants a) in
+    let d = done-is net p b u.horizon u.wants a in
+    let fin = finished-is know done r.runs d.runs in
     let fin_runs : AreRuns Q u.know = subst (λ x. AreRuns Q x) (sym e) fin.runs in
     let i = trimmed-is net p b u fin_runs in
     record {
       full = u.know;
       full_is = record {
         runs = fin_runs;
-        each = λ t. ap (λ x. known_at x t) e ∙ (fin.same_at t ∙ (ap₂ (λ x y. if is_A x then F else y) (done_values net f p b u.horizon u.wants a t) (r.same_at t) ∙ (F_if (is_consolidated_by (keeps_horizon net p b) u.horizon u.wants t) (at t)
+        each = λ t. ap (λ x. known_at x t) e ∙ (fin.same_at t ∙ (ap₂ (λ x y. if is_A x then F else y) (d.same_at t) (r.same_at t) ∙ (F_if (is_consolidated_by (keeps_horizon net p b) u.horizon u.wants t) (at t)
             ∙ ap₂ (λ x y. if is_consolidated_by (keeps_horizon net p b) x y t then F else at t) (sym i.horizon) (sym i.wants))));
       };
       forgets = subst (λ x. Forgets net p b x u.know (kept_view net p b u).know) (sym i.horizon) (forgets_by net p b u fin_runs);
@@ -138,63 +124,65 @@ knows_by net f p b at know u r a e =
 -- New ticks
 
 -- learning a piece obeys the rule of new ticks
-pub new_ticks_rule : (net : Net) (f : Facts) (p b : ℕ) (piece : Known) (v : View) (log : Log) → IsPlace net p b → IsDistinct (net.children p b) → ViewTrue net f p b v → KnowsTruth net f p b piece → NewTicks net p b piece v log (learn net p b piece v log)
+pub new_ticks_rule : (net : Net) (p b : ℕ) (piece : Known) (v : View) (log : Log) → IsDistinct (net.children p b) → IsView net p b v → AreRuns Q piece → NewTicks net p b piece v log (learn net p b piece v log)
 unfolding learn
-new_ticks_rule net f p b piece v log place distinct h k =
+new_ticks_rule net p b piece v log distinct h k =
     let keeps = keeps_horizon net p b in
     let new = new_ticks v.know piece in
-    let n = new_ticks-is v.know piece h.know.runs k.runs in
+    let n = new_ticks-is v.know piece h.know k in
     let joined = zip_runs Q Q Q same_K join_K v.know piece in
-    let j = joined-is v.know piece h.know.runs k.runs in
+    let j = joined-is v.know piece h.know k in
     let hz = learned_horizon net p b piece v in
     let ws = forward_wants net p new (net.children p b) v.wants in
-    let all = learn_wants net f p b piece v place h k in
-    let fin = finished-is joined (consolidated keeps hz ws) j.runs (done_runs net f p b hz ws all) in
+    let stored = wants_runs net p b v distinct h in
+    let all = forward_runs net p new (net.children p b) v.wants n.runs stored in
+    let fin = finished-is joined (consolidated keeps hz ws) j.runs (done-is net p b hz ws all).runs in
     let u : View = record { know = finished joined (consolidated keeps hz ws); wants = ws; asks = v.asks; horizon = hz; joins = v.joins } in
     let i = trimmed-is net p b u fin.runs in
-    let long = same_length net f p (net.children p b) v.wants h.wants in
+    let long = long_of (net.children p b) v.wants stored in
     let sends : (c : ℕ) → IsChild net p b c → AreRunsOf Q (λ t. if is_A (want_at net p b v c t) then Q else pass net p c t (known_at new t)) (forward net p c (wants_from net p b v c) new) =
-    λ c m. forward-is net p c (wants_from net p b v c) new (wants_true_at net f p (net.children p b) v.wants c h.wants m).runs n.runs in
+    λ c m. forward-is net p c (wants_from net p b v c) new (h.wants c m) n.runs in
     record {
       sent = λ c. forward net p c (wants_from net p b v c) new;
       sent_is = λ c m. record { runs = (sends c m).runs; each = λ t. (sends c m).same_at t ∙ ap (λ x. if is_A (want_at net p b v c t) then Q else pass net p c t x) (n.same_at t) };
       frames = forwarded_by_turn v.joins net p b new (net.children p b) v.wants ∙ turns_by_child (λ c w. know_frames v.joins b c p (forward net p c w new)) (net.children p b) v.wants long distinct;
       wants = λ c m.
-          let q = quenched-is (wants_from net p b v c) (forward net p c (wants_from net p b v c) new) (wants_true_at net f p (net.children p b) v.wants c h.wants m).runs (sends c m).runs in
+          let q = quenched-is (wants_from net p b v c) (forward net p c (wants_from net p b v c) new) (h.wants c m) (sends c m).runs in
           let e : get_or (kept_view net p b u).wants (place_of c (net.children p b)) [] ≡ still_wanted (wants_from net p b v c) (forward net p c (wants_from net p b v c) new) = ap (λ z. get_or z (place_of c (net.children p b)) []) i.wants ∙ quenched_by_child net p c new (net.children p b) v.wants long m in
           record { runs = subst (λ z. AreRuns N z) (sym e) q.runs; each = λ t. ap (λ z. wanted_at z t) e ∙ q.same_at t };
-      all_wants = ap length i.wants ∙ long_as net f p (net.children p b) ws all;
+      all_wants = ap length i.wants ∙ long_as (net.children p b) ws all;
       asks = let z = i.asks h.asks in record { runs = z.runs; each = z.same_at };
       horizon = subst (λ x. Moves keeps v.horizon x (λ t. join_K (known_at v.know t) (known_at piece t))) (sym i.horizon) (moved keeps v.horizon joined (λ t. join_K (known_at v.know t) (known_at piece t)) j);
       lines = subst (λ x. DeliversOn net p b v.horizon x (λ t. join_K (known_at v.know t) (known_at piece t)) (flat_map (delivery_lines net p v.horizon hz (data_ticks v.horizon hz joined)) (net.subscribers_at b))) (sym i.horizon)
           (told_on net p b v.horizon hz joined (λ t. join_K (known_at v.know t) (known_at piece t)) j);
-      know = knows_by net f p b (λ t. join_K (known_at v.know t) (known_at piece t)) joined u j all refl;
+      know = knows_by net p b (λ t. join_K (known_at v.know t) (known_at piece t)) joined u j all refl;
       log_same = refl;
       joins_same = i.joins;
     }
 
 -- Asking
 
-asks_rule : (net : Net) (f : Facts) (p b now : ℕ) (wanted : ℕ → Bool) (ps : List ℕ) (more fs : List Frame) (v : View) (log : Log) → ViewTrue net f p b v → IsWanted wanted ps → (let a = asking net p b now wanted ps v log in fs ≡ a.frames ++ more → Asks net p b now wanted more v log (record { view = a.view; log = a.log; lines = a.lines; frames = fs }))
+asks_rule : (net : Net) (p b now : ℕ) (wanted : ℕ → Bool) (ps : List ℕ) (more fs : List Frame) (v : View) (log : Log) → IsDistinct (net.children p b) → IsView net p b v → IsWanted wanted ps → (let a = asking net p b now wanted ps v log in fs ≡ a.frames ++ more → Asks net p b now wanted more v log (record { view = a.view; log = a.log; lines = a.lines; frames = fs }))
 unfolding asking
-asks_rule net f p b now wanted ps more fs v log h w same =
+asks_rule net p b now wanted ps more fs v log distinct h w same =
     let asked = due now net.retry v.know v.asks wanted ps in
     let d = due-at now net.retry v.know v.asks wanted ps w in
     let done = consolidated (keeps_horizon net p b) v.horizon v.wants in
-    let up = upward-at done asked (done_runs net f p b v.horizon v.wants h.wants) d.runs in
+    let fin = done-is net p b v.horizon v.wants (wants_runs net p b v distinct h) in
+    let up = upward-at done asked fin.runs d.runs in
     let u : View = record { know = v.know; wants = v.wants; asks = noted now v.asks asked; horizon = v.horizon; joins = v.joins } in
-    let i = trimmed-is net p b u h.know.runs in
+    let i = trimmed-is net p b u h.know in
     let n = noted-at now v.asks asked h.asks d.runs in
     record {
       asked = asked;
       asked_is = record { runs = d.runs; each = d.same_at };
       sent = upward done asked;
-      sent_is = record { runs = up.runs; each = λ t. up.same_at t ∙ (ap (λ x. if is_A x then A else wanted_at asked t) (done_values net f p b v.horizon v.wants h.wants t) ∙ A_if (is_consolidated_by (keeps_horizon net p b) v.horizon v.wants t) (wanted_at asked t)) };
+      sent_is = record { runs = up.runs; each = λ t. up.same_at t ∙ (ap (λ x. if is_A x then A else wanted_at asked t) (fin.same_at t) ∙ A_if (is_consolidated_by (keeps_horizon net p b) v.horizon v.wants t) (wanted_at asked t)) };
       frames = same;
       asks = let z = i.asks n.runs in record { runs = z.runs; each = λ t. z.same_at t ∙ ap (λ x. if is_F (known_at (kept_view net p b u).know t) && not (is_host net p b) then Never else x) (n.same_at t) };
       wants = i.wants;
       horizon = i.horizon;
-      know = forgets_by net p b u h.know.runs;
+      know = forgets_by net p b u h.know;
       lines = refl;
       log_same = refl;
       joins_same = i.joins;
@@ -205,9 +193,9 @@ asks_rule net f p b now wanted ps more fs v log h w same =
     A_if false x = refl
 
 -- the wake of a broker below the host obeys the rule of asking
-pub wake_below_rule : (net : Net) (f : Facts) (p b now : ℕ) (v : View) (log : Log) → ViewTrue net f p b v → Asks net p b now (wanted_by_age net p b now v) [] v log (wake_below net p b now v log)
+pub wake_below_rule : (net : Net) (p b now : ℕ) (v : View) (log : Log) → IsDistinct (net.children p b) → IsView net p b v → Asks net p b now (wanted_by_age net p b now v) [] v log (wake_below net p b now v log)
 unfolding wake_below asking
-wake_below_rule net f p b now v log h = asks_rule net f p b now (wanted_at_wake net (keeps_horizon net p b) now v) (wake_points net now v) [] (wake_below net p b now v log).frames v log h (wake_wanted net f p b now v h (keeps_horizon net p b)) (sym (append-nil (wake_below net p b now v log).frames))
+wake_below_rule net p b now v log distinct h = asks_rule net p b now (wanted_at_wake net (keeps_horizon net p b) now v) (wake_points net now v) [] (wake_below net p b now v log).frames v log distinct h (wake_wanted net p b now v (wants_runs net p b v distinct h) (keeps_horizon net p b)) (sym (append-nil (wake_below net p b now v log).frames))
 
 -- Expect
 
@@ -267,21 +255,21 @@ bare_among w tick (p ∷ ps) n =
     ]
 
 -- an expectation is handed on to exactly those children that have not acknowledged all of it
-pub expects_on : (net : Net) (f : Facts) (p b tick : ℕ) (v : View) → IsDistinct (net.children p b) → AllWantTruth net f p (net.children p b) v.wants → SendsExpect net p b tick v (expect_frames p b tick (net.children p b) v.wants)
-expects_on net f p b tick v distinct a = record {
+pub expects_on : (net : Net) (p b tick : ℕ) (v : View) → IsDistinct (net.children p b) → AllWantRuns (net.children p b) v.wants → SendsExpect net p b tick v (expect_frames p b tick (net.children p b) v.wants)
+expects_on net p b tick v distinct a = record {
   done = λ c. covers (wants_from net p b v c) tick;
   is_done = λ c m e. covered_A (wants_from net p b v c) tick e;
   not_done = λ c m e. bare_among (wants_from net p b v c) tick (1 ∷ points (wants_from net p b v c)) e;
-  frames_are = expected_by_turn p b tick (net.children p b) v.wants ∙ turns_by_child (λ c w. if covers w tick then [] else expect_frame b c p tick ∷ []) (net.children p b) v.wants (same_length net f p (net.children p b) v.wants a) distinct;
+  frames_are = expected_by_turn p b tick (net.children p b) v.wants ∙ turns_by_child (λ c w. if covers w tick then [] else expect_frame b c p tick ∷ []) (net.children p b) v.wants (long_of (net.children p b) v.wants a) distinct;
 }
 
 -- receiving an expectation obeys its rule
-pub expects_rule : (net : Net) (f : Facts) (p b now tick : ℕ) (v : View) (log : Log) → IsDistinct (net.children p b) → ViewTrue net f p b v → Expects net p b now tick v log (expect net p b now tick v log)
+pub expects_rule : (net : Net) (p b now tick : ℕ) (v : View) (log : Log) → IsDistinct (net.children p b) → IsView net p b v → Expects net p b now tick v log (expect net p b now tick v log)
 unfolding expect asking
-expects_rule net f p b now tick v log distinct h = record {
+expects_rule net p b now tick v log distinct h = record {
   on = expect_frames p b tick (net.children p b) v.wants;
-  on_is = expects_on net f p b tick v distinct h.wants;
-  asks = asks_rule net f p b now (λ t. any_C v.wants t || (keeps_horizon net p b && nat_lt v.horizon t && nat_le t tick)) (all_points v.wants ++ (suc v.horizon ∷ (suc tick ∷ []))) (expect_frames p b tick (net.children p b) v.wants) (expect net p b now tick v log).frames v log h (expect_wanted net f p b tick v h (keeps_horizon net p b)) refl;
+  on_is = expects_on net p b tick v distinct (wants_runs net p b v distinct h);
+  asks = asks_rule net p b now (λ t. any_C v.wants t || (keeps_horizon net p b && nat_lt v.horizon t && nat_le t tick)) (all_points v.wants ++ (suc v.horizon ∷ (suc tick ∷ []))) (expect_frames p b tick (net.children p b) v.wants) (expect net p b now tick v log).frames v log distinct h (expect_wanted net p b tick v (wants_runs net p b v distinct h) (keeps_horizon net p b)) refl;
 }
 
 -- Curiosity
@@ -339,9 +327,9 @@ set_long (w ∷ ws) zero x = refl
 set_long (w ∷ ws) (suc i) x = ap suc (set_long ws i x)
 
 -- receiving a child's curiosity obeys its rule
-pub child_asks_rule : (net : Net) (f : Facts) (p b now c : ℕ) (piece : Wanted) (v : View) (log : Log) → ViewTrue net f p b v → IsChild net p b c → WantsTruth net f p c piece → ChildAsks net p b now c piece v log (curiosity net p b now c (place_of c (net.children p b)) piece v log)
+pub child_asks_rule : (net : Net) (p b now c : ℕ) (piece : Wanted) (v : View) (log : Log) → IsDistinct (net.children p b) → IsView net p b v → IsChild net p b c → AreRuns N piece → ChildAsks net p b now c piece v log (curiosity net p b now c (place_of c (net.children p b)) piece v log)
 unfolding curiosity
-child_asks_rule net f p b now c piece v log h child wt = record {
+child_asks_rule net p b now c piece v log distinct h child wt = record {
   reply = reply;
   reply_is = record { runs = ri.runs; each = reply_at };
   asked = asked (is_host net p b);
@@ -349,10 +337,10 @@ child_asks_rule net f p b now c piece v log h child wt = record {
   frames = refl;
   wants = record { runs = subst (λ z. AreRuns N z) (sym here) si.runs; each = λ t. ap (λ z. wanted_at z t) here ∙ stored_at t };
   other_wants = λ d m n. ap (λ z. get_or z (place_of d (net.children p b)) []) i.wants ∙ get_or-set_other v.wants at (place_of d (net.children p b)) (stored v.know w piece) [] (place_apart (net.children p b) c d child m n);
-  all_wants = ap length i.wants ∙ (set_long v.wants at (stored v.know w piece) ∙ long_as net f p (net.children p b) v.wants h.wants);
+  all_wants = ap length i.wants ∙ (set_long v.wants at (stored v.know w piece) ∙ h.all_wants);
   asks = let z = i.asks ni.runs in record { runs = z.runs; each = λ t. z.same_at t ∙ ap (λ x. if is_F (known_at (curiosity net p b now c at piece v log).view.know t) && not (is_host net p b) then Never else x) (ni.same_at t) };
   horizon = i.horizon;
-  know = knows_by net f p b (λ t. known_at v.know t) v.know u (record { runs = h.know.runs; same_at = λ t. refl }) all refl;
+  know = knows_by net p b (λ t. known_at v.know t) v.know u (record { runs = h.know; same_at = λ t. refl }) all refl;
   lines = refl;
   log_same = refl;
   joins_same = i.joins;
@@ -371,28 +359,34 @@ child_asks_rule net f p b now c piece v log h child wt = record {
     w = acknowledged w0 piece
 
     ai : AreRunsOf N (λ t. if is_A (wanted_at piece t) then A else wanted_at w0 t) w
-    ai = acknowledged-is w0 piece (wants_true_at net f p (net.children p b) v.wants c h.wants child).runs wt.runs
+    ai = acknowledged-is w0 piece (h.wants c child) wt
 
     reply : Known
     reply = answers net p c v.know w piece
 
     ri : AreRunsOf Q (λ t. answer (pass net p c t (known_at v.know t)) (wanted_at w t) (wanted_at piece t)) reply
-    ri = answers-is net p c v.know w piece h.know.runs wt.runs
+    ri = answers-is net p c v.know w piece h.know wt
 
     reply_at : (t : ℕ) → known_at reply t ≡ (if is_C (wanted_at piece t) then (if is_A (wanted_at w0 t) then F else pass net p c t (known_at v.know t)) else Q)
     reply_at t = ri.same_at t ∙ (ap (λ a. answer (pass net p c t (known_at v.know t)) a (wanted_at piece t)) (ai.same_at t) ∙ answered_is (pass net p c t (known_at v.know t)) (wanted_at w0 t) (wanted_at piece t))
 
     si : AreRunsOf N (λ t. curious (known_at v.know t) (wanted_at w t) (wanted_at piece t)) (stored v.know w piece)
-    si = stored-is v.know w piece ai.runs wt.runs
+    si = stored-is v.know w piece ai.runs wt
 
     ws : List Wanted
     ws = set v.wants at (stored v.know w piece)
 
-    all : AllWantTruth net f p (net.children p b) ws
-    all = curiosity_wants net f p b c piece v h child wt
+    before : AllWantRuns (net.children p b) v.wants
+    before = wants_runs net p b v distinct h
+
+    all : AllWantRuns (net.children p b) ws
+    all = set_runs (net.children p b) v.wants at (stored v.know w piece) before si.runs
+
+    done_is : AreRunsOf N (λ t. if is_consolidated_by keeps v.horizon ws t then A else N) (consolidated keeps v.horizon ws)
+    done_is = done-is net p b v.horizon ws all
 
     put_here : get_or ws at [] ≡ stored v.know w piece
-    put_here = set_here (net.children p b) v.wants c (stored v.know w piece) (same_length net f p (net.children p b) v.wants h.wants) child
+    put_here = set_here (net.children p b) v.wants c (stored v.know w piece) (long_of (net.children p b) v.wants before) child
 
     stored_at : (t : ℕ) → wanted_at (stored v.know w piece) t ≡ (if is_A (wanted_at piece t) || is_A (wanted_at w0 t) then A else (if is_C (wanted_at piece t) then (if is_Q (known_at v.know t) then C else N) else wanted_at w0 t))
     stored_at t = si.same_at t ∙ (ap (λ a. curious (known_at v.know t) a (wanted_at piece t)) (ai.same_at t) ∙ stored_is (known_at v.know t) (wanted_at w0 t) (wanted_at piece t))
@@ -401,23 +395,23 @@ child_asks_rule net f p b now c piece v log h child wt = record {
     know = finished v.know (consolidated keeps v.horizon ws)
 
     fi : AreRunsOf Q (λ t. if is_A (wanted_at (consolidated keeps v.horizon ws) t) then F else known_at v.know t) know
-    fi = finished-is v.know (consolidated keeps v.horizon ws) h.know.runs (done_runs net f p b v.horizon ws all)
+    fi = finished-is v.know (consolidated keeps v.horizon ws) h.know done_is.runs
 
     fin : (t : ℕ) → known_at know t ≡ (if is_consolidated_by keeps v.horizon ws t then F else known_at v.know t)
-    fin t = fi.same_at t ∙ (ap (λ x. if is_A x then F else known_at v.know t) (done_values net f p b v.horizon ws all t) ∙ F_if (is_consolidated_by keeps v.horizon ws t) (known_at v.know t))
+    fin t = fi.same_at t ∙ (ap (λ x. if is_A x then F else known_at v.know t) (done_is.same_at t) ∙ F_if (is_consolidated_by keeps v.horizon ws t) (known_at v.know t))
 
     -- an unknown tick that the child asks is not final after that
     still_Q : (t : ℕ) → wanted_at piece t ≡ C → is_A (wanted_at w0 t) ≡ false → is_Q (known_at v.know t) ≡ true → is_Q (known_at know t) ≡ true
     still_Q t e n k =
         let x : wanted_at w t ≡ wanted_at w0 t = ai.same_at t ∙ ap (λ q. if is_A q then A else wanted_at w0 t) e in
         let y : is_A (wanted_at (get_or ws at []) t) ≡ false = ap (λ z. is_A (wanted_at z t)) put_here ∙ (ap is_A (si.same_at t ∙ ap₂ (curious (known_at v.know t)) x e) ∙ no_A_stored (known_at v.know t) (wanted_at w0 t) n) in
-        ap is_Q (fin t ∙ ap (λ q. if q then F else known_at v.know t) (not_settled net f p b c t v.horizon ws all child y)) ∙ k
+        ap is_Q (fin t ∙ ap (λ q. if q then F else known_at v.know t) (not_consolidated net p b c t v.horizon ws (long_of (net.children p b) ws all) child y)) ∙ k
 
     asking : Wanted
     asking = due now net.retry know v.asks (λ t. is_C (wanted_at piece t) && is_Q (known_at reply t)) (points piece ++ points reply)
 
     di : AreRunsOf N (λ t. if (is_C (wanted_at piece t) && is_Q (known_at reply t)) && is_Q (known_at know t) && not (is_outstanding (asked_at v.asks t) now net.retry) then C else N) asking
-    di = due-at now net.retry know v.asks (λ t. is_C (wanted_at piece t) && is_Q (known_at reply t)) (points piece ++ points reply) (curiosity_wanted reply piece wt.runs)
+    di = due-at now net.retry know v.asks (λ t. is_C (wanted_at piece t) && is_Q (known_at reply t)) (points piece ++ points reply) (curiosity_wanted reply piece wt)
 
     asked : Bool → Wanted
     asked q = elim q [ true ↦ [] | false ↦ asking ]

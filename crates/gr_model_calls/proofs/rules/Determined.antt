@@ -24,7 +24,8 @@ use Rattle.gr_model.specs.Tree.{IsNet, IsDistinct}
 use Rattle.gr_model_calls.specs.Rules.{TakesJoin, HasKnown, HasWanted, HasAsked, IsChild, wants_from, Moves, Forgets, Knows, DeliversOn, NewTicks, ChildAsks, Asks, wanted_by_age, wanted_upto, SendsExpect, Expects, IsConsolidatedUpto, reclaimed_lines, HostWakes, Wakes, Publishes, RulesDetermine}
 use Rattle.gr_tick.proofs.RunLaws.{runs_equal, value_at-in, value_at-below, value_at-above, value_at-start}
 use Rattle.gr_model_calls.proofs.calls.Told.{said_equal}
-use Rattle.gr_model_calls.proofs.rules.CallRules.{flat_map_same, apart}
+use Rattle.gr_model_calls.proofs.rules.CallRules.{flat_map_same}
+use Rattle.gr_model_calls.proofs.rules.Views.{apart}
 
 -- Pieces
 

@@ -1,7 +1,7 @@
 -- A consolidated tick is final at its broker: each call that moves a horizon or stores an acknowledgement makes it so, and no call takes an F back
 use Rattle.std.proofs.Common.{◌≡◌, ◌≢◌, inl, inr, ℕ, suc, ◌+◌, ◌≤◌, ◌<◌, max, Bool, true, false, ◌&&◌, ◌||◌, List, [], ◌∷◌, map, get_or, refl, sym, ap, ap₂, ◌∙◌, subst, arith}
 use Rattle.std.specs.Prelude.{nat_le, if◌then◌else◌}
-use Rattle.std.proofs.lemmas.Bool.{cases_eq, cases_lt, cases_Bool, eq-eqb, false≢true, lt-leb}
+use Rattle.std.proofs.lemmas.Bool.{cases_eq, cases_lt, cases_Bool, false≢true, lt-leb}
 use Rattle.std.proofs.lemmas.List.{get_or-set_other, get_or-set_same}
 use Rattle.gr_event.specs.declared.event.Event.{Event}
 use Rattle.gr_frame.specs.declared.Body.{Body}
@@ -18,7 +18,8 @@ use Rattle.gr_model.specs.Tree.{IsNet}
 use Rattle.gr_model_calls.specs.Rules.{TakesJoin, Forgets, Knows, Asks, HostWakes, Wakes, Publishes, Comes}
 use Rattle.gr_model_calls.specs.Fits.{WorldFits, FrameTrue, reached_in}
 use Rattle.gr_model_calls.proofs.rules.HostRules.{joins_rule, wakes_rule, publishes_rule, comes_rule}
-use Rattle.gr_model_calls.proofs.runs.Worlds.{held_by_host, Each, Changed, absorbed_changed}
+use Rattle.gr_model_calls.proofs.rules.Views.{fits_view}
+use Rattle.gr_model_calls.proofs.runs.Worlds.{Each, Changed, absorbed_changed}
 use Rattle.gr_model_calls.proofs.runs.Schedules.{get_numbers, start_is}
 use Rattle.gr_event.specs.Joins.{has_joined}
 use Rattle.gr_model_calls.proofs.runs.Closed.{with_logs, IsClosed}
@@ -148,7 +149,7 @@ wake_for_final : (net : Net) → IsNet net → 1 ≤ net.quiet → (w : World) (
 unfolding wake_for_by
 wake_for_final net n z w b p f i j a =
     let o = wake net p b w.clock (view_of w b p) (log_of w p) in
-    absorbed_final net w b p o f i j (wake_final net p b w.clock (view_of w b p) (log_of w p) o (wakes_rule net p b w.clock (view_of w b p) (log_of w p) (reached_in net w p) n z j i (f.logs p j) (f.views p b j i) (held_by_host net w b p f j))) a
+    absorbed_final net w b p o f i j (wake_final net p b w.clock (view_of w b p) (log_of w p) o (wakes_rule net p b w.clock (view_of w b p) (log_of w p) n z j i (fits_view net w p b f j i))) a
 
 deliver_final : (net : Net) → IsNet net → (w : World) (x : Frame) → WorldFits net w → FrameTrue net w x → AllFinal net w → AllFinal net (deliver_frame net w x).world
 unfolding deliver_frame_by
@@ -165,7 +166,7 @@ publish_now_final net n w p number e f j a =
     let b = net.host p in
     let i = n.host_in p j in
     let o = publish net p b w.clock number e (view_of w b p) (log_of w p) in
-    absorbed_final net w b p o f i j (publish_final net p b w.clock number e (view_of w b p) (log_of w p) o (publishes_rule net p b w.clock number e (view_of w b p) (log_of w p) (reached_in net w p) n j i (eq-eqb b b refl) (f.logs p j) (f.views p b j i))) a
+    absorbed_final net w b p o f i j (publish_final net p b w.clock number e (view_of w b p) (log_of w p) o (publishes_rule net p b w.clock number e (view_of w b p) (log_of w p) n j i (fits_view net w p b f j i))) a
 
 join_now_final : (net : Net) → IsNet net → (w : World) (s p : ℕ) → WorldFits net w → p < net.publishers → AllFinal net w → AllFinal net (join_now net w s p).world
 unfolding join_now_by
@@ -173,7 +174,7 @@ join_now_final net n w s p f j a =
     let b = net.host p in
     let i = n.host_in p j in
     let o = joining net p b w.clock s (view_of w b p) (log_of w p) in
-    absorbed_final net w b p o f i j (join_final net p b w.clock s (view_of w b p) (log_of w p) o (joins_rule net p b w.clock s (view_of w b p) (log_of w p) (reached_in net w p) n j i (f.logs p j) (f.views p b j i))) a
+    absorbed_final net w b p o f i j (join_final net p b w.clock s (view_of w b p) (log_of w p) o (joins_rule net p b w.clock s (view_of w b p) (log_of w p) n j i (fits_view net w p b f j i))) a
 
 restarted_final : (net : Net) (w : World) (logs : List Log) (b : ℕ) → WorldFits net w → b < net.brokers → AllFinal net w → AllFinal net (restarted net (with_logs w logs) b)
 unfolding restarted

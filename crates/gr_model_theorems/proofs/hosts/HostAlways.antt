@@ -29,7 +29,8 @@ use Rattle.gr_model_calls.specs.Rules.{Comes, HasAllWants}
 use Rattle.gr_model_calls.specs.Truth.{Facts, IsTrueAt, AllWantTruth}
 use Rattle.gr_model_calls.specs.Fits.{WorldFits, FrameTrue, facts_of, reached_in, StepIn, StepsIn}
 use Rattle.gr_model_calls.proofs.rules.HostRules.{joins_rule, wakes_rule, publishes_rule, comes_rule}
-use Rattle.gr_model_calls.proofs.runs.Worlds.{held_by_host, Changed, absorbed_changed, numbers_below}
+use Rattle.gr_model_calls.proofs.rules.Views.{fits_view}
+use Rattle.gr_model_calls.proofs.runs.Worlds.{Changed, absorbed_changed, numbers_below}
 use Rattle.gr_model_calls.proofs.runs.Schedules.{get_numbers, start_is, start_log, next_kept, clocked_fits, frame_at_true}
 use Rattle.gr_model_calls.proofs.runs.Closed.{clocked, with_logs, IsCallClosed, in_turn_goes, frame_at_ready, sweep_for_goes, wake_all_goes}
 use Rattle.gr_model_calls.proofs.topology.Strays.{AllOver, over_closed, start_over}
@@ -103,7 +104,7 @@ wake_hosts net n z w b p f i j a =
     let v = view_of w b p in
     let l = log_of w p in
     let o = wake net p b w.clock v l in
-    let rule = wakes_rule net p b w.clock v l (reached_in net w p) n z j i (f.logs p j) (f.views p b j i) (held_by_host net w b p f j) in
+    let rule = wakes_rule net p b w.clock v l n z j i (fits_view net w p b f j i) in
     absorbed_hosts net w b p o f i j
     (λ g k. host_finals net p b w.clock v l o (n.children_once p b j i) (all_wants net w b p f i j) (past_of net w b p f i j) (rule.host (eq-eqb (net.host p) b (sym g))) (a.final p b j i) k)
     (λ g. (rule.below (not_host net b p g)).log_same) a.hosts
@@ -143,7 +144,7 @@ publish_hosts net n w p number e f j a =
     let o = publish net p b w.clock number e v l in
     absorbed_hosts net w b p o f i j
     (λ g k. publish_finals net p b w.clock number e v l o (n.children_once p b j i) (all_wants net w b p f i j) (past_of net w b p f i j)
-    (publishes_rule net p b w.clock number e v l (reached_in net w p) n j i (eq-eqb b b refl) (f.logs p j) (f.views p b j i)) k)
+    (publishes_rule net p b w.clock number e v l n j i (fits_view net w p b f j i)) k)
     (λ g. absurd (g refl)) a
 
 join_hosts : (net : Net) → IsNet net → (w : World) (s p : ℕ) → WorldFits net w → p < net.publishers → HostsFinal net w → HostsFinal net (join_now net w s p).world
@@ -156,7 +157,7 @@ join_hosts net n w s p f j a =
     let o = joining net p b w.clock s v l in
     absorbed_hosts net w b p o f i j
     (λ g k. join_finals net p b w.clock s v l o (n.children_once p b j i) (all_wants net w b p f i j) (past_of net w b p f i j)
-    (joins_rule net p b w.clock s v l (reached_in net w p) n j i (f.logs p j) (f.views p b j i)) k)
+    (joins_rule net p b w.clock s v l n j i (fits_view net w p b f j i)) k)
     (λ g. absurd (g refl)) a
 
 -- Starts

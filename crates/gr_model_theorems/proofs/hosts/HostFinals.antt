@@ -19,7 +19,7 @@ use Rattle.gr_model.specs.Net.{Net, is_host, keeps_horizon}
 use Rattle.gr_model.specs.Broker.{View, Log, Outcome, max_tick, is_consolidated_by, horizon_if, is_reached, all_A, place_of, with_joins, view_joined, with_event, with_mark, with_join, filled_log, with_cut, cut_log_at, reclaims, started, log_at, log_know, event_at}
 use Rattle.gr_model.specs.Tree.{IsDistinct}
 use Rattle.gr_model_calls.specs.Rules.{HasKnown, IsChild, want_at, HasAllWants, Forgets, Knows, NewTicks, ChildAsks, Asks, silence_upto, event_upto, HostWakes, Publishes, TakesJoin, Comes}
-use Rattle.gr_model_calls.proofs.rules.CallRules.{apart}
+use Rattle.gr_model_calls.proofs.rules.Views.{apart}
 use Rattle.gr_model_calls.proofs.runs.Schedules.{log_know-is}
 use Rattle.gr_model_theorems.proofs.hosts.FinalTicks.{FinalTicks, forgets_final, knows_final}
 

@@ -2,7 +2,7 @@
 use Rattle.std.proofs.Common.{◌≡◌, ℕ, suc, ◌-◌, ◌≤◌, ◌<◌, max, Bool, true, false, ◌||◌, List, [], ◌∷◌, ◌++◌, map, length, set, refl, sym, ap, ap₂, ◌∙◌, subst, Option, Some, None, arith, append-nil}
 use Rattle.std.specs.Prelude.{zero, nat_le, if◌then◌else◌, filter, flat_map}
 use Rattle.std.proofs.lemmas.List.Elements.{filter-append}
-use Rattle.std.proofs.lemmas.Bool.{true≢false, eq-eqb, leb-true, leb-false, le-ltb, lt-ltb}
+use Rattle.std.proofs.lemmas.Bool.{true≢false, leb-true, leb-false, le-ltb, lt-ltb}
 use Rattle.gr_event.specs.declared.event.Event.{Event}
 use Rattle.gr_frame.specs.declared.Frame.{Frame}
 use Rattle.gr_sched.specs.declared.step.Stop.{Stop}
@@ -22,11 +22,12 @@ use Rattle.gr_model_calls.specs.Fits.{WorldFits, StepIn, StepsIn, reached_in}
 use Rattle.gr_model.specs.Headline.{says_kept}
 use Rattle.gr_model_theorems.specs.Settles.{sent_past, Call, wakes, delivers, made, all_made, WasSent, EachSent, at_sweep, sweep_calls, is_accepted, calls_in_turn, up_calls, wake_calls, down_calls, sweep_calls_for}
 use Rattle.gr_model_theorems.specs.Obeys.{joins, Action, publishes, makes, done, all_done, CallObeys, AllObey, is_next_of, calls_of, called_in, is_own, crashed_in, Obeys, StepObeys, StepsObey, CallsObey}
-use Rattle.gr_model_calls.proofs.runs.Worlds.{held_by_host, depths_in, Each, wake_for_kept, deliver_kept, numbers_below}
+use Rattle.gr_model_calls.proofs.runs.Worlds.{depths_in, Each, wake_for_kept, deliver_kept, numbers_below}
 use Rattle.gr_model_calls.proofs.runs.Schedules.{start_fits, next_kept, clocked_fits, frame_at_true}
 use Rattle.gr_model_theorems.proofs.sweep.SweepCalls.{made_is, sweep_is_calls, sweep_sent}
 use Rattle.gr_model_theorems.proofs.sweep.Rounds.{Each-join}
 use Rattle.gr_model_calls.proofs.rules.HostRules.{joins_rule, wakes_rule, publishes_rule, comes_rule}
+use Rattle.gr_model_calls.proofs.rules.Views.{fits_view}
 
 -- One call
 
@@ -48,7 +49,7 @@ wake_obeys : (net : Net) (w : World) (b p : ℕ) → IsNet net → 1 ≤ net.qui
 unfolding wake_for_by
 wake_obeys net w b p n quiet f i j =
     put_in net w (makes (wakes b p)) b p (Wakes net p b w.clock) (wake net p b w.clock (view_of w b p) (log_of w p))
-    (wakes_rule net p b w.clock (view_of w b p) (log_of w p) (reached_in net w p) n quiet j i (f.logs p j) (f.views p b j i) (held_by_host net w b p f j)) refl
+    (wakes_rule net p b w.clock (view_of w b p) (log_of w p) n quiet j i (fits_view net w p b f j i)) refl
 
 delivery_obeys : (net : Net) (w : World) (k : ℕ) (x : Frame) → IsNet net → WorldFits net w → frame_at w k ≡ Some x → CallObeys net w (makes (delivers k))
 unfolding deliver_frame_by
@@ -66,14 +67,14 @@ unfolding publish_now_by
 publish_obeys net w p number e n f j =
     let i = n.host_in p j in
     put_in net w (publishes p number e) (net.host p) p (Publishes net p (net.host p) w.clock number e) (publish net p (net.host p) w.clock number e (view_of w (net.host p) p) (log_of w p))
-    (publishes_rule net p (net.host p) w.clock number e (view_of w (net.host p) p) (log_of w p) (reached_in net w p) n j i (eq-eqb (net.host p) (net.host p) refl) (f.logs p j) (f.views p (net.host p) j i)) refl
+    (publishes_rule net p (net.host p) w.clock number e (view_of w (net.host p) p) (log_of w p) n j i (fits_view net w p (net.host p) f j i)) refl
 
 join_obeys : (net : Net) (w : World) (s p : ℕ) → IsNet net → WorldFits net w → p < net.publishers → CallObeys net w (joins s p)
 unfolding join_now_by
 join_obeys net w s p n f j =
     let i = n.host_in p j in
     put_in net w (joins s p) (net.host p) p (TakesJoin net p (net.host p) w.clock s) (joining net p (net.host p) w.clock s (view_of w (net.host p) p) (log_of w p))
-    (joins_rule net p (net.host p) w.clock s (view_of w (net.host p) p) (log_of w p) (reached_in net w p) n j i (f.logs p j) (f.views p (net.host p) j i)) refl
+    (joins_rule net p (net.host p) w.clock s (view_of w (net.host p) p) (log_of w p) n j i (fits_view net w p (net.host p) f j i)) refl
 
 -- The calls of a sweep
 

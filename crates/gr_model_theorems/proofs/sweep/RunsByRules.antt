@@ -2,7 +2,7 @@
 -- a list of happenings leaves no choice, all of them in turn leave none
 use Rattle.std.proofs.Common.{◌≡◌, inl, inr, ℕ, suc, zero, ◌≤◌, ◌<◌, max, Bool, true, false, List, [], ◌∷◌, ◌++◌, map, length, set, get_or, refl, sym, ap, ap₂, ◌∙◌, subst, Option, Some, None, arith, append_assoc}
 use Rattle.std.specs.Prelude.{filter, if◌then◌else◌, nat_le}
-use Rattle.std.proofs.lemmas.Bool.{cases_Bool, true≢false, eq-eqb, leb-true, leb-false, le-ltb, lt-ltb}
+use Rattle.std.proofs.lemmas.Bool.{cases_Bool, true≢false, leb-true, leb-false, le-ltb, lt-ltb}
 use Rattle.gr_event.specs.declared.event.Event.{Event}
 use Rattle.gr_know.specs.declared.values.K.TheVariants.{Q}
 use Rattle.gr_frame.specs.Bytes.{frame_bytes}
@@ -27,9 +27,10 @@ use Rattle.gr_model_calls.specs.Rules.{TakesJoin, HasKnown, Publishes, Wakes, Co
 use Rattle.gr_model_theorems.specs.Settles.{is_accepted, at_sweep}
 use Rattle.gr_model_theorems.specs.Obeys.{is_next_of}
 use Rattle.gr_model_theorems.specs.ByRules.{IsJoined, Tells, Then, EachInTurn, Starts, StartsAll, BeginsOver, Begins, StartsAgain, Calls, IsPublished, IsWoken, Arrives, SetsClock, Crashes, fate, logs_left, Stops, upward_since, AtOnce, WakesUp, HandsDown, SweepsFor, SweepsAll, Sweeps, shown, Delivers, ShowsBytes, Happens, RunByRules, ScheduleByRules, ReportByRules}
-use Rattle.gr_model_calls.proofs.runs.Worlds.{held_by_host, Kept, IsLaterWorld, FrameTrue-later, Each, wake_for_kept, deliver_kept, wake_up_kept, hand_down_kept, sweep_for_kept, in_turn_kept, frames_past_true, filter_frames, depths_in, numbers_below}
+use Rattle.gr_model_calls.proofs.runs.Worlds.{Kept, IsLaterWorld, FrameTrue-later, Each, wake_for_kept, deliver_kept, wake_up_kept, hand_down_kept, sweep_for_kept, in_turn_kept, frames_past_true, filter_frames, depths_in, numbers_below}
 use Rattle.gr_model_calls.proofs.runs.Schedules.{log_know-is, get_numbers, length_numbers, clocked_fits, frame_at_true, next_kept, start_fits}
 use Rattle.gr_model_calls.proofs.rules.HostRules.{joins_rule, wakes_rule, publishes_rule, comes_rule}
+use Rattle.gr_model_calls.proofs.rules.Views.{fits_view}
 use Rattle.gr_model_calls.proofs.rules.Determined.{determined}
 use Rattle.gr_model_theorems.proofs.sweep.Pending.{sent_up, delivered_up, one_kept, up_true, Each-weaker}
 use Rattle.gr_model_theorems.proofs.sweep.Upward.{rank_of, ranks, sent_up_less}
@@ -110,7 +111,7 @@ wake_exactly : (net : Net) (w : World) (b p : ℕ) → IsNet net → 1 ≤ net.q
 unfolding wake_for_by
 wake_exactly net w b p n quiet f i j =
     let o = wake net p b w.clock (view_of w b p) (log_of w p) in
-    let r = wakes_rule net p b w.clock (view_of w b p) (log_of w p) (reached_in net w p) n quiet j i (f.logs p j) (f.views p b j i) (held_by_host net w b p f j) in
+    let r = wakes_rule net p b w.clock (view_of w b p) (log_of w p) n quiet j i (fits_view net w p b f j i) in
     let d = determined net p b n j i in
     let x = call_exactly b p (Wakes net p b w.clock) w o r (λ u s. d.wakes w.clock (view_of w b p) (log_of w p) u o s r) in
     record { holds = x.holds; only = x.only }
@@ -140,7 +141,7 @@ publish_exactly net w p number e n f j =
     let v = view_of w b p in
     let log = log_of w p in
     let o = publish net p b w.clock number e v log in
-    let r = publishes_rule net p b w.clock number e v log (reached_in net w p) n j i (eq-eqb b b refl) (f.logs p j) (f.views p b j i) in
+    let r = publishes_rule net p b w.clock number e v log n j i (fits_view net w p b f j i) in
     let d = determined net p b n j i in
     let x = call_exactly b p (Publishes net p b w.clock number e) w o r (λ u s. d.publishes w.clock number e v log u o s r) in
     record { holds = x.holds; only = x.only }
@@ -153,7 +154,7 @@ join_exactly net w s p n f j =
     let v = view_of w b p in
     let log = log_of w p in
     let o = joining net p b w.clock s v log in
-    let r = joins_rule net p b w.clock s v log (reached_in net w p) n j i (f.logs p j) (f.views p b j i) in
+    let r = joins_rule net p b w.clock s v log n j i (fits_view net w p b f j i) in
     let d = determined net p b n j i in
     let x = call_exactly b p (TakesJoin net p b w.clock s) w o r (λ u q. d.joins w.clock s v log u o q r) in
     record { holds = x.holds; only = x.only }

@@ -1,0 +1,2 @@
+-- What a broker does by itself
+pub mod Alone
