@@ -1,2 +1,3 @@
 -- What a broker does by itself
 pub mod Alone
+pub mod ServedViews

@@ -27,7 +27,10 @@ ghost use Rattle.gr_model_theorems.specs.Found.{AreReopened};
 ghost use Rattle.gr_model_theorems.specs.Order.{FramesSent};
 ghost use Rattle.gr_model_theorems.specs.Replies.{Replied};
 ghost use Rattle.gr_model_calls.specs.Rules.{RulesDetermine, IsView};
-ghost use Rattle.gr_model_theorems.specs.Alone.{ObeysAlone};
+ghost use Rattle.gr_model_theorems.specs.Alone.{ObeysAlone, ReadsWhatMayCome, ServesViews};
+ghost use Rattle.gr_model_theorems.specs.Served.{IsOfBytes};
+ghost use Rattle.gr_frame.specs.declared.Frame.{Frame};
+ghost use Rattle.std.specs.List.{AllByRecursion};
 ghost use Rattle.gr_model_theorems.specs.Obeys.{CallsObey};
 ghost use Rattle.gr_model_theorems.specs.ByRules.{ScheduleByRules};
 ghost use Rattle.gr_model_theorems.specs.Settles.{SweepSettles, AllGot};
@@ -141,17 +144,20 @@ pub fn rules_determine()
     ensures { (net : Net) (p b : ℕ) → IsNet net → p < net.publishers → b < net.brokers → RulesDetermine net p b }
 {}
 
-/// A broker by itself, whatever its peers send, among honest ones or not. Of every view that it may have, each of its
-/// calls leaves, tells and sends what the rule of the call says of that view, on the net of the joins that the view
-/// shows, and nothing else does; and the view that it leaves is one that a broker may have again. A view is one that a
-/// broker may have where its runs are canonical and one curiosity is stored for each child: nothing is asked of what the
-/// view says, nor of the log. A broker starts with such a view. The runs of frames are canonical, as decoded bytes are,
-/// and curiosity comes from a child; knowledge that clashes, or whose joins split from those held, is dropped, and
-/// nothing happens.
+/// A broker by itself, whatever its peers send. Of every view that it may have, each of its calls leaves, prints and
+/// sends what the rule of the call says of that view, on the net of the joins that the view shows, and nothing else
+/// does; and the view that it leaves is one that a broker may have. That is a view whose runs are canonical and which
+/// stores one curiosity for each child: nothing is asked of what the view says, nor of the log. A broker starts with
+/// such a view. A frame that is read of bytes and fits the broker may come to it. Knowledge that clashes with what is
+/// known, or whose joins split from those that are held, is dropped, and nothing happens. So at a server with any of
+/// the brokers, over any logs and whatever bytes come, each view is always one that its broker may have.
 pub fn a_broker_alone()
     ensures calls { (net : Net) (p b now : ℕ) (v : View) (log : Log) → IsNet net → 1 ≤ net.quiet →
         p < net.publishers → b < net.brokers → IsView net p b v → ObeysAlone net p b now v log }
     ensures starts { (net : Net) (p b : ℕ) (log : Log) → IsView net p b (started net p b log) }
+    ensures reads { (net : Net) (b : ℕ) (bytes : List ℕ) (f : Frame) → ReadsWhatMayCome net b bytes f }
+    ensures serves { (net : Net) (hosted : List ℕ) (logs : List Log) (steps : List Line) (arrivals : List Arrival) →
+        IsNet net → 1 ≤ net.quiet → AllByRecursion IsOfBytes arrivals → ServesViews net hosted logs steps arrivals }
 {}
 
 /// Of every schedule the rules allow exactly one report and leave exactly one world, the machine's: no other report, by

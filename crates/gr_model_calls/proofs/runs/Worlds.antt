@@ -28,16 +28,18 @@ use Rattle.gr_model_calls.proofs.calls.Calls.{ComeOn, CallTrue, publish_call, wa
 
 -- Views in a list of lists
 
-view_same : (w : World) (views : List (List View)) (b p : ℕ) (v : View) → b < length views → p < length (get_or views b []) → get_or (get_or (with_view views b p v) b []) p blank_view ≡ v
+-- what stands where one view was put in its place: that view there, and all others as they were
+pub view_same : (w : World) (views : List (List View)) (b p : ℕ) (v : View) → b < length views → p < length (get_or views b []) → get_or (get_or (with_view views b p v) b []) p blank_view ≡ v
 view_same w views b p v h k = ap (λ row. get_or row p blank_view) (get_or-set_same views b (set (get_or views b []) p v) [] h) ∙ get_or-set_same (get_or views b []) p v blank_view k
 
-view_other_broker : (views : List (List View)) (b p c q : ℕ) (v : View) → c ≢ b → get_or (get_or (with_view views b p v) c []) q blank_view ≡ get_or (get_or views c []) q blank_view
+pub view_other_broker : (views : List (List View)) (b p c q : ℕ) (v : View) → c ≢ b → get_or (get_or (with_view views b p v) c []) q blank_view ≡ get_or (get_or views c []) q blank_view
 view_other_broker views b p c q v n = ap (λ row. get_or row q blank_view) (get_or-set_other views b c (set (get_or views b []) p v) [] n)
 
-view_other : (views : List (List View)) (b p q : ℕ) (v : View) → b < length views → q ≢ p → get_or (get_or (with_view views b p v) b []) q blank_view ≡ get_or (get_or views b []) q blank_view
+pub view_other : (views : List (List View)) (b p q : ℕ) (v : View) → b < length views → q ≢ p → get_or (get_or (with_view views b p v) b []) q blank_view ≡ get_or (get_or views b []) q blank_view
 view_other views b p q v h n = ap (λ row. get_or row q blank_view) (get_or-set_same views b (set (get_or views b []) p v) [] h) ∙ get_or-set_other (get_or views b []) p q v blank_view n
 
-row_length : (views : List (List View)) (b p c : ℕ) (v : View) → b < length views → length (get_or (with_view views b p v) c []) ≡ length (get_or views c [])
+-- and no row is longer or shorter
+pub row_length : (views : List (List View)) (b p c : ℕ) (v : View) → b < length views → length (get_or (with_view views b p v) c []) ≡ length (get_or views c [])
 row_length views b p c v h =
     elim (cases_eq c b) [
       | inl e ↦ subst (λ x. length (get_or (with_view views b p v) x []) ≡ length (get_or views x [])) (sym e) (ap length (get_or-set_same views b (set (get_or views b []) p v) [] h) ∙ length-set (get_or views b []) p v)
