@@ -227,7 +227,8 @@ note_in net b bytes fits = go (note_decoded bytes) refl
     go (Err fault) d = none_in net
     go (Ok n) d = submit n (submitted_in net b n) d refl
 
-arrival_in : (net : Net) (hosted : List ℕ) (lines : List Report) (left : List Request) (a : Arrival) → AreBrokers net hosted → LeftIn net left → IsOfBytes a → AreIn net (steps_at net hosted lines left a)
+-- and so are the steps of an arrival, whatever came
+pub arrival_in : (net : Net) (hosted : List ℕ) (lines : List Report) (left : List Request) (a : Arrival) → AreBrokers net hosted → LeftIn net left → IsOfBytes a → AreIn net (steps_at net hosted lines left a)
 arrival_in net hosted lines left (datagram b bytes moment) k l fits = in_front net (as_line (step.Clock (min moment max_tick))) (datagram_step net lines b bytes) tt (omega arith) (go (begins_note bytes))
   where
     delivered : (c : Bool) → AreIn net (if c then delivery_step (number_of_bytes b bytes lines) else [])
