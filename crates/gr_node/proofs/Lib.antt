@@ -26,6 +26,7 @@ pub mod Receipts
 pub mod Planned
 pub mod Honest
 pub mod Obeying
+pub mod ObeyedOnce
 pub mod Taken
 pub mod Moving
 pub mod Opening

@@ -17,7 +17,8 @@ use Rattle.gr_model_theorems.specs.Statements.{opened_over, served_end, Arrivals
 use Rattle.gr_model_theorems.proofs.joins.Served.{ServedAsOne, served_as_one}
 use Rattle.gr_model_theorems.proofs.server.OpensByRules.{opens_by_rules}
 use Rattle.gr_model_theorems.proofs.server.Serving.{shown as all_shown}
-use Rattle.gr_node.specs.Obeyed.{ComeByRules, ServedByRules, ObeysRules}
+use Rattle.gr_node.specs.Obeyed.{ComeByRules, ServedByRules, ObeysRules, AloneObeysRules}
+use Rattle.gr_node.proofs.ObeyedOnce.{only_one_obeys}
 
 -- a run over logs that forget is one over logs that keep their events
 pub served_kept : (net : Net) (logs : List Log) (steps : List Line) (arrivals : List Arrival) → IsServedOverLanes net logs steps arrivals
@@ -55,7 +56,7 @@ come_by_rules net (a ∷ arrivals) w told left n does =
     }
 
 -- and so is the whole run, behind its start
-pub obeys_rules : (net : Net) (logs : List Log) (steps : List Line) (arrivals : List Arrival) → IsServedRun net (kept_logs logs) steps arrivals → ArrivalsDoSteps net (kept_logs logs) steps arrivals
+obeys_rules : (net : Net) (logs : List Log) (steps : List Line) (arrivals : List Arrival) → IsServedRun net (kept_logs logs) steps arrivals → ArrivalsDoSteps net (kept_logs logs) steps arrivals
     → served net (numbers net.brokers) logs steps arrivals ≡ served net (numbers net.brokers) (kept_logs logs) steps arrivals → ObeysRules net logs steps arrivals (served net (numbers net.brokers) logs steps arrivals)
 unfolding served_by
 obeys_rules net logs steps arrivals s does same =
@@ -76,3 +77,14 @@ obeys_rules net logs steps arrivals s does same =
             (subst (λ (t : Transition). AllDoSteps g t.world t.lines left arrivals) does.opens does.does);
       });
     })
+
+-- and nothing else is
+pub obeys_alone : (net : Net) (logs : List Log) (steps : List Line) (arrivals : List Arrival) → IsServedRun net (kept_logs logs) steps arrivals → ArrivalsDoSteps net (kept_logs logs) steps arrivals
+    → served net (numbers net.brokers) logs steps arrivals ≡ served net (numbers net.brokers) (kept_logs logs) steps arrivals → AloneObeysRules net logs steps arrivals (served net (numbers net.brokers) logs steps arrivals)
+obeys_alone net logs steps arrivals s does same =
+    let asked = s.over.asked in
+    let here = obeys_rules net logs steps arrivals s does same in
+    record {
+      obeys = here;
+      alone = λ other obeyed. only_one_obeys net logs steps arrivals (served net (numbers net.brokers) logs steps arrivals) other asked.tree asked.quiet s.over.reopened_cuts asked.steps_in s.numbers_in s.bytes here obeyed;
+    }

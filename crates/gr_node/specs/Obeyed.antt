@@ -45,3 +45,10 @@ pub record ObeysRules (net : Net) (logs : List Log) (steps : List Line) (arrival
     (rs : List (List Report)) : Type 0 where
   pub left : World
   pub run : ServedByRules (last_net net left) (kept_logs logs) steps arrivals rs left
+
+-- It is by the rules, and no other report of these steps and arrivals over these logs is, whatever state and whatever
+-- joins that other leaves
+pub record AloneObeysRules (net : Net) (logs : List Log) (steps : List Line) (arrivals : List Arrival)
+    (rs : List (List Report)) : Type 0 where
+  pub obeys : ObeysRules net logs steps arrivals rs
+  pub alone : (other : List (List Report)) → ObeysRules net logs steps arrivals other → other ≡ rs

@@ -23,7 +23,7 @@ ghost use Rattle.gr_model_theorems.specs.Statements.{ArrivalsDoSteps, AreTotals}
 ghost use Rattle.gr_model_theorems.specs.OrderedServed.{OrderedServedLanes, OneOrderServedLanes};
 ghost use Rattle.gr_node.specs.Plan.{Act, ours, act, plan, all_entries, reply_to};
 ghost use Rattle.gr_node.specs.Lasting.{Along, Lasts};
-ghost use Rattle.gr_node.specs.Obeyed.{ObeysRules};
+ghost use Rattle.gr_node.specs.Obeyed.{AloneObeysRules};
 ghost use Rattle.gr_node.specs.Served.{Course, world_before, acts_upto, world_upto, planned, IsHonestJournal};
 ghost use Rattle.gr_node.specs.Submitted.{IsFirstOf, Logs, log_found, after_acts, AreFirst, IsOfClient};
 ghost use Rattle.gr_node.specs.Submitted.{offers_next, HasNumbers};
@@ -39,9 +39,9 @@ use gr_topo::Topology;
 /// The headline of a run that hosts all brokers, over old logs too: where the journal is honest, every arrival does
 /// what its steps of a schedule do, and of these the whole headline holds. A late subscriber wants what is past its
 /// join, as the log has it. What each call of a broker sends, keeps and tells is what its rule says, so all that is
-/// reported is by the rules. Of the subscribers that get one list over all publishers, whichever they are, each is told
-/// in it exactly what it is to have, behind the opening and behind each arrival; and of two that want the same one list
-/// begins with the other.
+/// reported is by the rules; and no other report of what came is, whatever state it leaves. Of the subscribers that get
+/// one list over all publishers, whichever they are, each is told in it exactly what it is to have, behind the opening
+/// and behind each arrival; and of two that want the same one list begins with the other.
 ///
 /// And of any run: the plan's acts, one after another, tell what the machine serves of what came at the hosted brokers,
 /// and leave the world after it.
@@ -59,7 +59,7 @@ pub fn an_honest_journal_meets_the_headline(topo: &Topology)
         → AllByRecursion IsOfBytes c.came
         → IsHonestJournal [] (planned topo.now (numbers (length topo.now.brokers)) steps c)
         → let came : List Arrival = ours (numbers (length topo.now.brokers)) c.came in
-        ObeysRules (net_of topo.now) c.logs steps came
+        AloneObeysRules (net_of topo.now) c.logs steps came
         (served (net_of topo.now) (numbers (length topo.now.brokers)) c.logs steps came) }
     ensures ordered { (steps : List Line) (c : Course) (totals : List ℕ) → AreStepsOf topo.now steps
         → AllOpened topo.now.late c.logs → AllByRecursion IsOfBytes c.came

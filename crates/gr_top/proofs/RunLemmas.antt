@@ -22,7 +22,7 @@ use Rattle.gr_model_theorems.specs.Forgets.{AllOpened}
 use Rattle.gr_model_theorems.specs.Lanes.{HoldsServedLanes}
 use Rattle.gr_model_theorems.specs.OrderedServed.{OrderedServedLanes, OneOrderServedLanes}
 use Rattle.gr_model_theorems.specs.Statements.{AreTotals}
-use Rattle.gr_node.specs.Obeyed.{ObeysRules}
+use Rattle.gr_node.specs.Obeyed.{AloneObeysRules}
 use Rattle.gr_node.specs.Plan.{Act, binds, starts, shows, ours, nodes, plan, run_acts}
 use Rattle.gr_node.specs.Served.{Course, is_start, planned, IsRunOf, Posts, KeepsLogs, IsHonestJournal}
 use Rattle.gr_top.specs.declared.voice.Voice.{Voice}
@@ -44,11 +44,11 @@ MeetsServed t = (steps : List Line) (c : Course) → AreStepsOf t steps → AllO
     → AllByRecursion IsOfBytes c.came → IsHonestJournal [] (planned t (numbers (length t.brokers)) steps c)
     → HoldsServedLanes (net_of t) c.logs steps (ours (numbers (length t.brokers)) c.came)
 
--- that what it reports is by the rules
+-- that what it reports is by the rules, and nothing else is
 abbrev pub FollowsRules : TopologyView → Type 0
 FollowsRules t = (steps : List Line) (c : Course) → AreStepsOf t steps → AllOpened t.late c.logs
     → AllByRecursion IsOfBytes c.came → IsHonestJournal [] (planned t (numbers (length t.brokers)) steps c)
-    → ObeysRules (net_of t) c.logs steps (ours (numbers (length t.brokers)) c.came) (served_lines t steps (numbers (length t.brokers)) c)
+    → AloneObeysRules (net_of t) c.logs steps (ours (numbers (length t.brokers)) c.came) (served_lines t steps (numbers (length t.brokers)) c)
 
 -- and that its lists over all publishers are what they are to be
 abbrev pub OrdersServed : TopologyView → Type 0
@@ -80,7 +80,7 @@ runs_to voice t lines hosted turns post_tells disk_tells before after answer can
       subst (λ h. HoldsServedLanes (net_of t) r.0.logs lines (ours h r.0.came)) (sym all)
       (meets lines r.0 can.steps r.1.0.opened r.1.0.bytes (subst (λ h. IsHonestJournal [] (planned t h lines r.0)) all honest));
   by_rules = λ all honest.
-      subst (λ h. ObeysRules (net_of t) r.0.logs lines (ours h r.0.came) (served_lines t lines h r.0)) (sym all)
+      subst (λ h. AloneObeysRules (net_of t) r.0.logs lines (ours h r.0.came) (served_lines t lines h r.0)) (sym all)
       (obeys lines r.0 can.steps r.1.0.opened r.1.0.bytes (subst (λ h. IsHonestJournal [] (planned t h lines r.0)) all honest));
   ordered = λ all honest.
       subst (λ h. IsInOrder t lines h r.0) (sym all)

@@ -25,7 +25,7 @@ use Rattle.gr_model_theorems.specs.Lanes.{HoldsServedLanes}
 use Rattle.gr_model_theorems.specs.OrderedServed.{OrderedServedLanes, OneOrderServedLanes}
 use Rattle.gr_audit.specs.Audited.{has_clients}
 use Rattle.gr_node.specs.Of.{AreHosted, AreAddressed}
-use Rattle.gr_node.specs.Obeyed.{ObeysRules}
+use Rattle.gr_node.specs.Obeyed.{AloneObeysRules}
 use Rattle.gr_node.specs.Plan.{ours}
 use Rattle.gr_node.specs.Starting.{IsFirstDamaged}
 use Rattle.gr_node.specs.Served.{Course, planned, IsRunOf, Posts, Prints, KeepsLogs, IsHonestJournal}
@@ -117,8 +117,8 @@ Writes voices.Journal t lines hosted c before after answer = Traces t hosted lin
 
 -- A run came to an answer. What was done of it is told by its course: the post has the journal of that, the sink took
 -- its lines and the lanes hold its logs. Where all brokers served, over old logs too, and the journal is honest, the
--- headline holds, all that is reported is by the rules of the calls, and each list over all publishers is what it is to
--- be
+-- headline holds, the report is by the rules of the calls and no other is, and each list over all publishers is what it
+-- is to be
 pub record RunsTo (voice : Voice) (t : TopologyView) (lines : List Line) (hosted : List ℕ) (turns : ℕ)
     (post_tells disk_tells : Type 0) (before after : Around) (answer : Result ⊤ RunFault) : Type 0 where
   pub course : Course
@@ -129,7 +129,7 @@ pub record RunsTo (voice : Voice) (t : TopologyView) (lines : List Line) (hosted
   pub headline : hosted ≡ numbers (length t.brokers) → IsHonestJournal [] (planned t hosted lines course)
       → HoldsServedLanes (net_of t) course.logs lines (ours hosted course.came)
   pub by_rules : hosted ≡ numbers (length t.brokers) → IsHonestJournal [] (planned t hosted lines course)
-      → ObeysRules (net_of t) course.logs lines (ours hosted course.came) (served_lines t lines hosted course)
+      → AloneObeysRules (net_of t) course.logs lines (ours hosted course.came) (served_lines t lines hosted course)
   pub ordered : hosted ≡ numbers (length t.brokers) → IsHonestJournal [] (planned t hosted lines course)
       → IsInOrder t lines hosted course
 

@@ -5,7 +5,7 @@ use Rattle.gr_model_theorems.specs.Forgets.{kept_logs}
 use Rattle.gr_node.specs.Plan.{ours}
 use Rattle.gr_node.proofs.Planned.{plan_lines, plan_world}
 use Rattle.gr_node.proofs.Honest.{late_in, is_served}
-use Rattle.gr_node.proofs.Obeying.{served_kept, obeys_rules}
+use Rattle.gr_node.proofs.Obeying.{served_kept, obeys_alone}
 use Rattle.gr_node.proofs.law.an_honest_journal_meets_the_headline.Goals as goal
 
 pub returns-clause-headline : goal.returns-clause-headline
@@ -44,7 +44,7 @@ returns-clause-by_rules c = λ steps run steps_of opened bytes honest.
     let same = c.forgets_the_same.ensures.opened (net_of t) (numbers (length t.brokers)) run.logs in
     let s = is_served t steps run (record { tree = tree.tree; quiet = tree.orderly.quiet; retry = tree.orderly.retry; steps_in = fit.0 }) fit.1 (omega (arith, limits.brokers)) (omega (arith, limits.publishers)) late found bytes honest in
     let r = served_kept (net_of t) run.logs steps came s (same.served_same steps came) in
-    obeys_rules (net_of t) run.logs steps came r (c.headline_served.ensures.calls (net_of t) (kept_logs run.logs) steps came r) (same.served_same steps came)
+    obeys_alone (net_of t) run.logs steps came r (c.headline_served.ensures.calls (net_of t) (kept_logs run.logs) steps came r) (same.served_same steps came)
 
 pub returns-clause-ordered : goal.returns-clause-ordered
 returns-clause-ordered c = λ steps run totals steps_of opened bytes honest are.
