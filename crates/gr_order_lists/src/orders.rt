@@ -1,6 +1,6 @@
 //! The lists of all subscribers that get one.
 
-ghost use Rattle.std.specs.Prelude.{◌≡◌, ℕ, ◌<◌, ◌≤◌, ◌++◌, ◌∷◌, if◌then◌else◌, List, [], map, length, IfOk, OnOk};
+ghost use Rattle.std.specs.Prelude.{◌≡◌, ◌^◌, ℕ, ◌<◌, ◌≤◌, ◌++◌, ◌∷◌, if◌then◌else◌, List, [], map, length, IfOk, OnOk};
 ghost use Rattle.gr_topo.specs.Topology.{total_of, totals_of};
 ghost use Rattle.gr_model.specs.Orders.{orders_of, heard, fed, ordered, without_ordered, said_of, fresh_order};
 ghost use Rattle.gr_order_lists.specs.Places.{ArePlaced, subject};
@@ -114,9 +114,9 @@ fn add_list(
     Ok(())
 }
 
-/// How many lists there are: at most one for each subscriber before this one.
-fn count_of(lists: &Vec<OneList>, s: u16) -> u16
-    requires { length lists.now.items ≤ s }
+/// How many lists there are: at most one for each subscriber, so that two bytes are enough.
+fn count_of(lists: &Vec<OneList>) -> u16
+    requires { length lists.now.items < 2 ^ 16 }
     ensures { result ≡ length lists.now.items }
 {
     lists.len() as u16
@@ -136,7 +136,7 @@ fn lists_of(
 {
     let mut lists = Vec::new(alloc);
     'subscribers: for s in 0..topology.subscribers() {
-        places.push(count_of(&lists, s))?;
+        places.push(count_of(&lists))?;
         add_list(alloc, topology, s, &mut lists)?;
     }
     Ok(lists)
