@@ -18,4 +18,4 @@ pub use law::{limits_of_schedules, printed_steps_read_back};
 pub use schedule::parse;
 pub use step::{Line, MAX_INPUT_BYTES, MAX_NUMBER, MAX_STEPS, Names, Step, Steps, Stop};
 pub use text::{Counted, count, is_blank, line_count, next_counted, split};
-pub use words::{after_word, first_word, is_number_in, trimmed};
+pub use words::{after_word, first_word, is_number_in, trimmed, value};

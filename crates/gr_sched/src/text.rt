@@ -97,7 +97,7 @@ fn ends_with_byte(byte: u8, text: &[u8]) -> bool
 }
 
 /// The line that stands in a piece of a text.
-fn line_of(piece: &[u8]) -> &[u8]
+pub fn line_of(piece: &[u8]) -> &[u8]
     ensures { result.now ≡ line_of piece.now }
 {
     if ends_with_byte(b'\n', piece) {
@@ -125,7 +125,7 @@ fn is_counted(line: &[u8]) -> bool
 
 /// How long the first piece of a text is: up to its LF, or all of it.
 #[tactic(auto, using(crate::proofs::Pieces::piece_cut, crate::proofs::Pieces::piece_whole, crate::proofs::Pieces::place_within))]
-fn piece_len(text: &[u8]) -> usize
+pub fn piece_len(text: &[u8]) -> usize
     requires { 0 < length text.now }
     ensures some { 0 < result }
     ensures within { result ≤ length text.now }

@@ -59,7 +59,7 @@ pub fn next_word(line: u32, text: &[u8]) -> Result<(&[u8], &[u8]), StepFault>
 }
 
 /// The value of a word of 1 to 19 digits, or None where it is no such word.
-fn value(word: &[u8]) -> Option<u64>
+pub fn value(word: &[u8]) -> Option<u64>
     ensures { result ≡ if is_number word.now then Some (value_after 0 word.now) else None }
 {
     if word.is_empty() || word.len() > 19 {
