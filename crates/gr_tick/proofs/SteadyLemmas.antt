@@ -3,13 +3,15 @@ use Rattle.std.proofs.Common.{◌≡◌, ◌≢◌, ℕ, ◌+◌, ◌-◌, ◌<�
 use Rattle.std.proofs.lemmas.List.{take-append-drop, take_all}
 use Rattle.std.proofs.lemmas.Bool.{le-leb, cond-true, cond-false, and_from, cases_lt}
 use Rattle.gr_tick.specs.declared.run.Run.{Run}
+use Rattle.gr_tick.specs.declared.steady.Steady.{Steady}
 use Rattle.gr_tick.specs.Runs.{is_in, value_at, first_bottom_from, top_of}
-use Rattle.gr_tick.specs.Stored.{within, AreTickRuns, EndBefore, BeginAfter}
+use Rattle.gr_tick.specs.Stored.{within, IsRun, AreTickRuns, EndBefore, BeginAfter, StaysUntil}
 use Rattle.gr_tick.proofs.RunLaws.{IsFirstBottom, first_bottom_from-is}
 use Rattle.gr_tick.proofs.Canonical.{AreRuns-in_range}
 use Rattle.gr_tick.proofs.EditLemmas.{split_read, take_read}
 use Rattle.gr_tick.proofs.RunsLemmas.{value_at-append, value_at_past, value_at_ahead, covers_yes, covers_above, AreTickRuns-back, AreTickRuns-upto, BeginAfter-back, BeginAfter-earlier, EndBefore-front}
-use Rattle.gr_tick.proofs.StepLemmas.{gap_value, run_value, ahead_at, read_alone}
+use Rattle.gr_tick.proofs.StepLemmas.{gap_value, run_value, ahead_at, gap_steady, run_steady, read_alone}
+use Rattle.gr_tick.proofs.SeekLemmas.{gap_at, run_at}
 
 module _ {V : Type 0} where
   -- the tick after a run has another value
@@ -66,6 +68,35 @@ module _ {V : Type 0} where
       there =
           ap (λ ys. value_at least ys a) (sym (take-append-drop i xs))
           ∙ gap_value least (take i xs) (drop i xs) a a a before (ahead_at least xs i a r lt e h ar) (omega arith) (omega arith)
+
+  -- what is looked up at a run is the value at the tick, up to where it ends
+  pub run_says : (least : V) (xs : List (Run V)) (i a : ℕ) (r : Run V) (s : Steady V) → i < length xs → r ≡ get_or xs i r → AreTickRuns least xs → EndBefore (take i xs) a → a ≤ r.last →
+      (a < r.first → (s.value ≡ least) × (s.last ≡ r.first - 1)) → (r.first ≤ a → (s.value ≡ r.value) × (s.last ≡ r.last)) → StaysUntil least xs a s
+  run_says least xs i a r s lt e h front reach ahead begun = by_place (cases_lt a r.first)
+    where
+      is : IsRun least r
+      is = read_alone least xs i r lt e h
+
+      by_place : (a < r.first) ⊎ (r.first ≤ a) → StaysUntil least xs a s
+      by_place (inl lo) =
+          let end : s.last ≡ r.first - 1 = (ahead lo).1 in
+          record {
+            value = (ahead lo).0 ∙ gap_at least xs i a front (ahead_at least xs i a r lt e h lo);
+            forward = omega (arith, end, lo);
+            inside = omega (arith, end, is.ordered, is.upto);
+            steady = λ t from upto.
+                gap_steady least xs i a t t front (ahead_at least xs i t r lt e h (omega (arith, end, upto, lo))) from (omega arith);
+            greatest = λ below. gap_changes least xs i a (s.last + 1) r lt e h front lo (omega (arith, end, lo));
+          }
+      by_place (inr ge) =
+          let end : s.last ≡ r.last = (begun ge).1 in
+          record {
+            value = (begun ge).0 ∙ run_at least xs i a r lt e h ge reach;
+            forward = omega (arith, end, reach);
+            inside = omega (arith, end, is.upto);
+            steady = λ t from upto. run_steady least xs i a t r lt e h ge from (omega (arith, end, upto));
+            greatest = λ below. rw end (run_changes least xs i a r lt e h ge reach);
+          }
 
   -- there is one least tick with the least value
   pub first_bottom_from-only : (least : V) (rs : List (Run V)) (t u : ℕ) → AreTickRuns least rs → t ≤ u → value_at least rs u ≡ least → ((x : ℕ) → t ≤ x → x < u → value_at least rs x ≢ least) → u ≡ first_bottom_from rs t

@@ -12,7 +12,7 @@ use crate::MAX_TICK;
 use crate::lattice::{Lattice, is_bottom};
 use crate::row::Row;
 use crate::run::Run;
-use crate::steady::Steady;
+use crate::steady::{Steady, steady_by};
 use gr_gap::Gap;
 use std::alloc::AllocError;
 
@@ -880,17 +880,7 @@ pub fn steady_in<V: Lattice>(runs: &Gap<Run<V>>, tick: u64) -> Steady<V>
             last: MAX_TICK,
         };
     }
-    let run = runs.get(i);
-    if tick < run.first {
-        return Steady {
-            value: V::bottom(),
-            last: run.first - 1,
-        };
-    }
-    Steady {
-        value: run.value.share(),
-        last: run.last,
-    }
+    steady_by(runs.get(i), tick)
 }
 
 /// The room that is enough to join each run of a list, or None exactly where it is no number of the machine's.

@@ -9,7 +9,7 @@ use crate::MAX_TICK;
 use crate::lattice::Lattice;
 use crate::row::Row;
 use crate::run::Run;
-use crate::steady::Steady;
+use crate::steady::{Steady, steady_by};
 use std::alloc::{AllocError, Global};
 
 /// Equal runs, or `AllocError`.
@@ -106,15 +106,5 @@ pub(crate) fn steady_row<V: Lattice>(runs: &Row<Run<V>>, tick: u64) -> Steady<V>
             last: MAX_TICK,
         };
     }
-    let run = runs.get(i);
-    if tick < run.first {
-        return Steady {
-            value: V::bottom(),
-            last: run.first - 1,
-        };
-    }
-    Steady {
-        value: run.value.share(),
-        last: run.last,
-    }
+    steady_by(runs.get(i), tick)
 }

@@ -1,10 +1,9 @@
--- The value is that of `value_in`, and the tick that of `steady_until`.
-use Rattle.std.proofs.Common.{◌<◌, ◌≤◌, length, arith, ◌∙◌}
-use Rattle.gr_tick.specs.Stored.{IsRun}
+-- behind all runs the value is the least up to the last tick; at a run the lemma says it
+use Rattle.std.proofs.Common.{◌<◌, length, arith, ◌∙◌}
 use Rattle.gr_tick.proofs.EditLemmas.{drop_read}
-use Rattle.gr_tick.proofs.StepLemmas.{ahead_at, ahead_none, gap_steady, read_alone, run_steady}
-use Rattle.gr_tick.proofs.SeekLemmas.{gap_at, run_at}
-use Rattle.gr_tick.proofs.SteadyLemmas.{gap_changes, run_changes}
+use Rattle.gr_tick.proofs.StepLemmas.{ahead_none, gap_steady}
+use Rattle.gr_tick.proofs.SeekLemmas.{gap_at}
+use Rattle.gr_tick.proofs.SteadyLemmas.{run_says}
 use Rattle.gr_tick.proofs.edits.steady_in.Goals as goal
 
 pub returns-then-i-len : goal.returns-then-i-len
@@ -17,37 +16,11 @@ returns-then-i-len g c = record {
   greatest = λ lt. absurd (omega (arith, lt));
 }
 
-pub returns-then-tick-run : goal.returns-then-tick-run
-returns-then-tick-run g c =
-    let least = g.V.Lattice.least in
-    let xs = c.args.runs.now.items in
-    let i = c.seek-i.result in
-    let r = c.get-run.result.now in
-    let lt : i < length xs = omega arith in
-    let is : IsRun least r = read_alone least xs i r lt c.get-run.ensures c.requires.runs in
-    record {
-      value = c.bottom-then-tick-run.ensures ∙ gap_at least xs i c.args.tick c.seek-i.ensures.front (ahead_at least xs i c.args.tick r lt c.get-run.ensures c.requires.runs c.if-tick-run.true);
-      forward = omega (arith, c.if-tick-run.true);
-      inside = omega (arith, is.ordered, is.upto);
-      steady = λ t lo hi.
-          gap_steady _ xs i c.args.tick _ t c.seek-i.ensures.front (ahead_at least xs i t r lt c.get-run.ensures c.requires.runs (omega (arith, hi, c.if-tick-run.true))) lo (omega arith);
-      greatest = λ below. gap_changes least xs i c.args.tick _ r lt c.get-run.ensures c.requires.runs c.seek-i.ensures.front c.if-tick-run.true (omega (arith, c.if-tick-run.true));
-    }
-
 pub returns : goal.returns
 returns g c =
-    let least = g.V.Lattice.least in
     let xs = c.args.runs.now.items in
     let i = c.seek-i.result in
-    let r = c.get-run.result.now in
+    let r = c.get.result.now in
     let lt : i < length xs = omega arith in
-    let is : IsRun least r = read_alone least xs i r lt c.get-run.ensures c.requires.runs in
-    let begun : r.first ≤ c.args.tick = omega (arith, c.if-tick-run.false) in
-    let reach : c.args.tick ≤ r.last = c.seek-i.ensures.here r _ (drop_read xs i r lt c.get-run.ensures) in
-    record {
-      value = c.share.ensures ∙ run_at least xs i c.args.tick r lt c.get-run.ensures c.requires.runs begun reach;
-      forward = reach;
-      inside = is.upto;
-      steady = λ t lo hi. run_steady least xs i c.args.tick t r lt c.get-run.ensures c.requires.runs begun lo hi;
-      greatest = λ below. run_changes least xs i c.args.tick r lt c.get-run.ensures c.requires.runs begun reach;
-    }
+    run_says g.V.Lattice.least xs i c.args.tick r c.steady_by.result lt c.get.ensures c.requires.runs c.seek-i.ensures.front
+    (c.seek-i.ensures.here r _ (drop_read xs i r lt c.get.ensures)) c.steady_by.ensures.ahead c.steady_by.ensures.begun
