@@ -1,11 +1,12 @@
 -- What a lane in memory keeps, the room that it has, and what becomes of each call of a disk in memory
-use Rattle.std.specs.Prelude.{◌≡◌, ℕ, ◌+◌, ◌-◌, ◌≤◌, nat_eq, Bool, true, false, if◌then◌else◌, List, length, take, drop}
-use Rattle.std.specs.Prelude.{◌++◌, replicate, Result, is_err}
+use Rattle.std.specs.Prelude.{◌≡◌, ◌≢◌, ℕ, ◌+◌, ◌-◌, ◌≤◌, nat_eq, Bool, true, false, if◌then◌else◌, List, [], length, take, drop}
+use Rattle.std.specs.Prelude.{◌++◌, replicate, Result, is_err, IsErr}
 use Rattle.gr_out.specs.declared.disk.Fate.{Fate}
 use Rattle.gr_out.specs.declared.disk.Fate.TheVariants.{Done, Failed, Broken, Lost}
 use Rattle.gr_out.specs.declared.disk.Stop.{Stop}
 use Rattle.gr_out.specs.declared.disk.Stop.TheVariants.{Stopped}
-use Rattle.gr_out.specs.Lane.{Lane, Call, read_after, synced_after, fresh_after, garbled, has_stopped, fate_of, lane_at}
+use Rattle.gr_out.specs.Lane.{Lane, Call, read_after, synced_after, fresh_after, garbled, has_stopped, is_due, fate_of, lane_at}
+use Rattle.gr_out.specs.Stops.{StopCounts, StaysFaultless}
 use Rattle.gr_out.specs.Streams.{counted, is_listed}
 
 -- what was synced: the bytes, with others in place of as many as there are marks, from a first place on
@@ -110,6 +111,22 @@ pub record FailsAsListed {T E : Type 0} (fate : Fate) (old new : DiskView) (resu
   pub calls : new.calls ≡ counted old.calls
   pub faults : new.faults ≡ faults_after fate old.faults
   pub stops : new.stops ≡ stops_after fate old.stops
+
+-- A size or a read of a lane leaves all lanes as they were, and fails where it is listed or a stop has broken a call.
+pub record LooksAt {T E : Type 0} (lane : ℕ) (old new : DiskView) (result : Result T E) : Type 0 where
+  pub same : (n : ℕ) → lane_at new.lanes n ≡ lane_at old.lanes n
+  pub listed : FailsAsListed (look_fate old lane) old new result
+  pub cause : StopCounts (has_stopped (lane_at old.lanes lane).stop) old.faults new.faults old.stops new.stops result
+  pub faultless : StaysFaultless (old.fails ≡ []) (new.fails ≡ []) old.faults new.faults
+  pub by_stop : old.fails ≡ [] → IsErr result → has_stopped (lane_at old.lanes lane).stop ≡ true
+
+-- A write, cut or sync of a lane leaves the other lanes as they were, and fails where it is listed or a stop is due.
+pub record ChangesLane {T E : Type 0} (lane : ℕ) (old new : DiskView) (result : Result T E) : Type 0 where
+  pub others : (n : ℕ) → n ≢ lane → lane_at new.lanes n ≡ lane_at old.lanes n
+  pub listed : FailsAsListed (change_fate old lane) old new result
+  pub cause : StopCounts (is_due (lane_at old.lanes lane).stop) old.faults new.faults old.stops new.stops result
+  pub faultless : StaysFaultless (old.fails ≡ []) (new.fails ≡ []) old.faults new.faults
+  pub by_stop : old.fails ≡ [] → IsErr result → is_due (lane_at old.lanes lane).stop ≡ true
 
 -- A call that cannot fail, and is not counted.
 pub record IsUncounted (old new : DiskView) : Type 0 where

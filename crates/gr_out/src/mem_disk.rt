@@ -1,11 +1,11 @@
 //! A disk in memory, some of whose calls fail, that can be stopped at a chosen call.
 
-ghost use Rattle.std.specs.Prelude.{◌≡◌, ◌≢◌, ℕ, ◌+◌, ◌<◌, ◌≤◌, [], IsTrue, Bool, true, is_err, IsErr, List, length};
+ghost use Rattle.std.specs.Prelude.{◌≡◌, ◌≢◌, ℕ, ◌+◌, ◌<◌, ◌≤◌, [], IsTrue, Bool, true, is_err, List, length};
 ghost use Rattle.std.specs.Prelude.{take, drop, IfOk, OnOk, OnErr};
-ghost use Rattle.gr_out.specs.Lane.{Lane, lane_at, lane_of, content, is_due, has_stopped, after_call, Write, Cut, Sync};
+ghost use Rattle.gr_out.specs.Lane.{Lane, lane_at, lane_of, content, has_stopped, after_call, Write, Cut, Sync};
 ghost use Rattle.gr_out.specs.Lane.{with_room, with_stop, stop_at, crashed, MayLeave};
 ghost use Rattle.gr_out.specs.Kept.{DiskView, is_failure, is_broken, fate_of_read, faults_after, stops_after};
-ghost use Rattle.gr_out.specs.Kept.{look_fate, change_fate, FailsAsListed, IsUncounted};
+ghost use Rattle.gr_out.specs.Kept.{look_fate, FailsAsListed, LooksAt, ChangesLane, IsUncounted};
 ghost use Rattle.gr_out.specs.Streams.{counted, is_listed};
 ghost use Rattle.gr_out.specs.Stops.{StopCounts, StaysFaultless};
 
@@ -204,12 +204,7 @@ impl Disk for MemDisk {
 
     fn size(&mut self, lane: u16) -> Result<u64, Failed>
         ensures size { IfOk result (λ n. n ≡ length (content (lane_at self.old.lanes lane))) }
-        ensures same { (n : ℕ) → lane_at self.new.lanes n ≡ lane_at self.old.lanes n }
-        ensures listed { FailsAsListed (look_fate self.old lane) self.old self.new result }
-        ensures cause { StopCounts (has_stopped (lane_at self.old.lanes lane).stop)
-            self.old.faults self.new.faults self.old.stops self.new.stops result }
-        ensures faultless { StaysFaultless (self.old.fails ≡ []) (self.new.fails ≡ []) self.old.faults self.new.faults }
-        ensures by_stop { self.old.fails ≡ [] → IsErr result → has_stopped (lane_at self.old.lanes lane).stop ≡ true }
+        ensures looks { LooksAt lane self.old self.new result }
     {
         self.look(lane)?;
         Ok(bytes_of(&self.lanes, lane).len() as u64)
@@ -220,12 +215,7 @@ impl Disk for MemDisk {
         ensures bytes { OnOk result
             (into.new ≡ take (length into.old) (drop at (content (lane_at self.old.lanes lane)))) }
         ensures len { length into.new ≡ length into.old }
-        ensures same { (n : ℕ) → lane_at self.new.lanes n ≡ lane_at self.old.lanes n }
-        ensures listed { FailsAsListed (look_fate self.old lane) self.old self.new result }
-        ensures cause { StopCounts (has_stopped (lane_at self.old.lanes lane).stop)
-            self.old.faults self.new.faults self.old.stops self.new.stops result }
-        ensures faultless { StaysFaultless (self.old.fails ≡ []) (self.new.fails ≡ []) self.old.faults self.new.faults }
-        ensures by_stop { self.old.fails ≡ [] → IsErr result → has_stopped (lane_at self.old.lanes lane).stop ≡ true }
+        ensures looks { LooksAt lane self.old self.new result }
     {
         self.look(lane)?;
         let from = at as usize;
@@ -239,12 +229,7 @@ impl Disk for MemDisk {
         requires few { 0 < (lane_at self.old.lanes lane).left }
         ensures after { lane_at self.new.lanes lane
             ≡ after_call (Write at bytes.now) (is_err result) (lane_at self.old.lanes lane) }
-        ensures others { (n : ℕ) → n ≢ lane → lane_at self.new.lanes n ≡ lane_at self.old.lanes n }
-        ensures listed { FailsAsListed (change_fate self.old lane) self.old self.new result }
-        ensures cause { StopCounts (is_due (lane_at self.old.lanes lane).stop)
-            self.old.faults self.new.faults self.old.stops self.new.stops result }
-        ensures faultless { StaysFaultless (self.old.fails ≡ []) (self.new.fails ≡ []) self.old.faults self.new.faults }
-        ensures by_stop { self.old.fails ≡ [] → IsErr result → is_due (lane_at self.old.lanes lane).stop ≡ true }
+        ensures changes { ChangesLane lane self.old self.new result }
     {
         let fails = is_next_listed(&mut self.calls, &self.fails);
         let fate = self.lanes[usize::from(lane)].write_at(at as usize, bytes, fails);
@@ -255,12 +240,7 @@ impl Disk for MemDisk {
         requires few { 0 < (lane_at self.old.lanes lane).left }
         ensures after { lane_at self.new.lanes lane
             ≡ after_call (Cut len) (is_err result) (lane_at self.old.lanes lane) }
-        ensures others { (n : ℕ) → n ≢ lane → lane_at self.new.lanes n ≡ lane_at self.old.lanes n }
-        ensures listed { FailsAsListed (change_fate self.old lane) self.old self.new result }
-        ensures cause { StopCounts (is_due (lane_at self.old.lanes lane).stop)
-            self.old.faults self.new.faults self.old.stops self.new.stops result }
-        ensures faultless { StaysFaultless (self.old.fails ≡ []) (self.new.fails ≡ []) self.old.faults self.new.faults }
-        ensures by_stop { self.old.fails ≡ [] → IsErr result → is_due (lane_at self.old.lanes lane).stop ≡ true }
+        ensures changes { ChangesLane lane self.old self.new result }
     {
         let fails = is_next_listed(&mut self.calls, &self.fails);
         let fate = self.lanes[usize::from(lane)].cut(len as usize, fails);
@@ -271,12 +251,7 @@ impl Disk for MemDisk {
         requires few { 0 < (lane_at self.old.lanes lane).left }
         ensures after { lane_at self.new.lanes lane
             ≡ after_call Sync (is_err result) (lane_at self.old.lanes lane) }
-        ensures others { (n : ℕ) → n ≢ lane → lane_at self.new.lanes n ≡ lane_at self.old.lanes n }
-        ensures listed { FailsAsListed (change_fate self.old lane) self.old self.new result }
-        ensures cause { StopCounts (is_due (lane_at self.old.lanes lane).stop)
-            self.old.faults self.new.faults self.old.stops self.new.stops result }
-        ensures faultless { StaysFaultless (self.old.fails ≡ []) (self.new.fails ≡ []) self.old.faults self.new.faults }
-        ensures by_stop { self.old.fails ≡ [] → IsErr result → is_due (lane_at self.old.lanes lane).stop ≡ true }
+        ensures changes { ChangesLane lane self.old self.new result }
     {
         let fails = is_next_listed(&mut self.calls, &self.fails);
         let fate = self.lanes[usize::from(lane)].sync(fails);
