@@ -1,10 +1,9 @@
 -- What holds of every schedule that begins on logs that were found, beside the headline
 use Rattle.std.specs.Prelude.{◌≡◌, ℕ, true, List}
-use Rattle.gr_frame.specs.declared.Body.TheVariants as body
 use Rattle.gr_sched.specs.declared.step.Line.{Line}
 use Rattle.gr_model.specs.declared.report.Report.{Report}
 use Rattle.gr_model.specs.Net.{Net}
-use Rattle.gr_model.specs.Broker.{Log, clashes}
+use Rattle.gr_model.specs.Broker.{Log}
 use Rattle.gr_model.specs.World.{World}
 use Rattle.gr_model_calls.specs.OneNet.{run_all, run_from}
 use Rattle.gr_model.specs.Headline.{History, history}

@@ -15,7 +15,7 @@ use Rattle.gr_know.specs.Values.{Known, known_at, is_Q}
 use Rattle.gr_curio.specs.Values.{Wanted, Asked, wanted_at, asked_at, is_C, same_moment}
 use Rattle.gr_event.specs.Joins.{Joins, longer}
 use Rattle.gr_model.specs.Net.{Net, is_host, keeps_horizon, numbers}
-use Rattle.gr_model.specs.Broker.{with_joins, drops, joining, View, Log, Outcome, know_frames, want_frames, expect_frame, all_points, any_C, consolidated, finished, is_F, open_asks, kept_view, kept_view_below, forward, new_ticks, forward_frames, learn, due, noted, up_frames, asking, answers, stored, acknowledged, curiosity, wake_below, wanted_at_wake, expect, expect_frames, covers, place_of, publish, silence, with_mark, marking, cutting, wake_host, wake, receive, clashes, empty_log, started, head}
+use Rattle.gr_model.specs.Broker.{with_joins, drops, joining, View, Log, Outcome, know_frames, want_frames, expect_frame, all_points, any_C, consolidated, finished, is_F, open_asks, kept_view, kept_view_below, forward, new_ticks, forward_frames, learn, due, noted, up_frames, asking, answers, stored, acknowledged, curiosity, wake_below, wanted_at_wake, expect, expect_frames, covers, place_of, publish, silence, with_mark, marking, cutting, wake_host, wake, receive, empty_log, started, head}
 use Rattle.gr_frame.specs.Bytes.{head_size, known_run_size, wanted_run_size, cut_frames}
 use Rattle.gr_model.specs.World.{join_now_by, World, blank_view, view_of, log_of, with_view, absorbed, restarted, start, start_by, deliver_frame_by, publish_now_by, wake_for_by}
 use Rattle.gr_model_calls.specs.OneNet.{join_now, wake_for, deliver_frame, publish_now, run_all}

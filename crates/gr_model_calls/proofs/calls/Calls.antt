@@ -18,7 +18,7 @@ use Rattle.gr_know.specs.Values.{Known, known_at, join_K, same_K}
 use Rattle.gr_curio.specs.Values.{Wanted, wanted_at, is_A}
 use Rattle.gr_event.specs.Event.{same_event}
 use Rattle.gr_model.specs.Net.{Net, is_late, all_late, is_host, keeps_horizon}
-use Rattle.gr_model.specs.Broker.{with_joins, with_join, drops, joining, joining_by, View, Log, Outcome, know_frames, want_frames, expect_frame, is_consolidated_by, consolidated, finished, kept_view, kept_view_below, new_ticks, forward, forward_frames, learn, up_frames, asking, curiosity, wake_below, expect, expect_frames, covers, max_tick, place_of, publish, silence, with_event, with_mark, marking, cutting, done_upto, wake_host, wake, receive, clashes, head}
+use Rattle.gr_model.specs.Broker.{with_joins, with_join, drops, joining, joining_by, View, Log, Outcome, know_frames, want_frames, expect_frame, is_consolidated_by, consolidated, finished, kept_view, kept_view_below, new_ticks, forward, forward_frames, learn, up_frames, asking, curiosity, wake_below, expect, expect_frames, covers, max_tick, place_of, publish, silence, with_event, with_mark, marking, cutting, done_upto, wake_host, wake, receive, head}
 use Rattle.gr_frame.specs.Bytes.{known_run_size, wanted_run_size, head_size, cut_frames}
 use Rattle.gr_event.specs.Joins.{Joins, longer}
 use Rattle.gr_pubend.specs.declared.answers.Joined.TheVariants as joins

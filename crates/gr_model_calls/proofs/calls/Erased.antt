@@ -20,10 +20,8 @@ use Rattle.gr_model.specs.declared.report.Report.TheVariants as line
 use Rattle.gr_model_calls.specs.Said.{said_at, TicksRise}
 use Rattle.gr_model.specs.Net.{Net, with_wants, is_host, keeps_horizon, pass}
 use Rattle.gr_event.specs.Joins.{Joins, longer, has_joined}
-use Rattle.gr_frame.specs.declared.Body.{Body}
-use Rattle.gr_frame.specs.declared.Body.TheVariants as body
 use Rattle.gr_pubend.specs.declared.answers.Joined.TheVariants as joins
-use Rattle.gr_model.specs.Broker.{with_joins, with_join, drops, receive, place_of, joining, joining_by, joined_at, View, Log, Outcome, head, know_frames, up_frames, got_line, delivery_lines, data_ticks, horizon_after, new_ticks, pass_points, passed, forward, still_wanted, forward_frames, forward_wants, learn, consolidated, finished, kept_view, due, noted, acknowledged, answers_of, answers, stored, curiosity, max_tick, silence, with_mark, with_event, expect_frames, asking, expect, wake_below, published, quieted, publish_by, marking_by, publish, cutting, cutting_lines, marking, wake_host, wake}
+use Rattle.gr_model.specs.Broker.{with_joins, with_join, joining, joining_by, joined_at, View, Log, Outcome, head, know_frames, up_frames, got_line, delivery_lines, data_ticks, horizon_after, new_ticks, pass_points, passed, forward, still_wanted, forward_frames, forward_wants, learn, consolidated, finished, kept_view, due, noted, acknowledged, answers_of, answers, stored, curiosity, max_tick, silence, with_mark, with_event, expect_frames, asking, expect, wake_below, published, quieted, publish_by, marking_by, publish, cutting, cutting_lines, marking, wake_host, wake}
 use Rattle.gr_pubend.specs.declared.answers.Published.{Published}
 use Rattle.gr_pubend.specs.declared.answers.Published.TheVariants.{Logged, Already, Gap, Exhausted}
 use Rattle.gr_pubend.specs.declared.answers.Quieted.{Quieted}

@@ -16,9 +16,8 @@ use Rattle.gr_know.specs.Values.{Known, join_K, same_K}
 use Rattle.gr_curio.specs.Values.{Wanted}
 use Rattle.gr_model.specs.Net.{Net, keeps_horizon, is_host}
 use Rattle.gr_event.specs.Joins.{Joins, longer}
-use Rattle.gr_pubend.specs.declared.answers.Joined.TheVariants as joins
 use Rattle.gr_model_calls.proofs.calls.Held.{own, both, fewer, grows_not}
-use Rattle.gr_model.specs.Broker.{with_joins, with_join, drops, max_tick, joining, joining_by, View, Log, Outcome, data_ticks, got_line, delivery_lines, learn, wake_below, asking, expect, curiosity, receive, clashes, place_of, marking, cutting, cutting_lines, wake_host, wake, publish, silence, with_event, with_mark}
+use Rattle.gr_model.specs.Broker.{with_joins, with_join, drops, joining, View, Log, Outcome, data_ticks, got_line, delivery_lines, learn, wake_below, asking, expect, curiosity, receive, place_of, marking, cutting, cutting_lines, wake_host, wake, publish, silence, with_event, with_mark}
 use Rattle.gr_model.specs.World.{sent_line, sent_lines}
 use Rattle.gr_model.specs.Headline.{delivered_events, last_horizon, HorizonsRise}
 use Rattle.gr_model_calls.specs.Truth.{Holds, HasEvent, Grows, KnowsTruth}

@@ -1,6 +1,5 @@
 -- What is still to be joined is carried back over each call, whatever net it sees
-use Rattle.std.proofs.Common.{◌≡◌, ℕ, suc, zero, ◌+◌, ◌≤◌, ◌<◌, max, Bool, true, false, List, [], ◌∷◌, ◌++◌, set, get_or, refl, sym, ap, ◌∙◌, subst, Option, Some, None, arith, le_trans, le_refl}
-use Rattle.std.specs.Prelude.{nat_eq, nat_le, nat_lt, if◌then◌else◌}
+use Rattle.std.proofs.Common.{◌≡◌, ℕ, suc, zero, ◌+◌, ◌≤◌, ◌<◌, max, Bool, true, false, List, [], ◌∷◌, set, get_or, refl, sym, ap, subst, arith, le_refl}
 use Rattle.std.proofs.lemmas.Bool.{leb-true}
 use Rattle.gr_event.specs.declared.event.Event.{Event}
 use Rattle.gr_event.specs.Joins.{Joins, longer}
@@ -16,8 +15,8 @@ use Rattle.gr_model_calls.proofs.calls.Held.{grows_not, grows_on}
 use Rattle.gr_model_calls.proofs.calls.HostCases.{publish_cases, marking_cases, joining_cases}
 use Rattle.gr_model_calls.proofs.calls.Calls.{learn_log}
 use Rattle.gr_model_calls.proofs.calls.Cutting.{cutting_settled, cutting_joins}
-use Rattle.gr_model_calls.proofs.runs.Closed.{clocked, with_logs}
-use Rattle.gr_model_calls.proofs.runs.Seeing.{Back, Backs}
+use Rattle.gr_model_calls.proofs.runs.Closed.{with_logs}
+use Rattle.gr_model_calls.proofs.runs.Seeing.{Backs}
 
 -- a log that goes on from another
 pub record GoesOn (log new : Log) : Type 0 where

@@ -1,19 +1,17 @@
 -- A run in which each call sees the joins that its view holds is the run on the net of the last joins
-use Rattle.std.proofs.Common.{◌≡◌, ◌⊎◌, inl, inr, ℕ, ◌<◌, Bool, List, refl, sym, subst, ap, ◌∙◌}
+use Rattle.std.proofs.Common.{◌≡◌, ◌⊎◌, inl, inr, ℕ, ◌<◌, Bool, List, subst}
 use Rattle.gr_event.specs.declared.event.Event.{Event}
 use Rattle.gr_event.specs.Joins.{Joins}
 use Rattle.gr_sched.specs.declared.step.Line.{Line}
-use Rattle.gr_model.specs.declared.report.Report.{Report}
 use Rattle.gr_model.specs.Net.{Net, with_wants, wants_with}
-use Rattle.gr_model.specs.Broker.{View, seen}
-use Rattle.gr_model.specs.World.{World, Transition, log_of, start, next_by, run_all_by, run_from_by, report_of_by}
+use Rattle.gr_model.specs.Broker.{seen}
+use Rattle.gr_model.specs.World.{World, log_of, start, next_by, run_all_by, run_from_by, report_of_by}
 use Rattle.gr_model_calls.specs.OneNet.{next, run_all, run_from, report_of}
-use Rattle.gr_model.specs.Tree.{IsNet, IsPlace}
+use Rattle.gr_model.specs.Tree.{IsNet}
 use Rattle.gr_model_calls.specs.Truth.{Grows}
 use Rattle.gr_model_calls.specs.Fits.{WorldFits, StepIn, StepsIn}
 use Rattle.gr_model_calls.proofs.calls.Held.{grows_not}
-use Rattle.gr_model_calls.proofs.runs.Schedules.{start_fits}
-use Rattle.gr_model_calls.proofs.runs.Seeing.{Back, Runs, next_runs, run_runs, lines_run, report_runs, next_back}
+use Rattle.gr_model_calls.proofs.runs.Seeing.{next_runs, run_runs, lines_run, report_runs, next_back}
 use Rattle.gr_model_calls.proofs.joins.Growing.{AheadOf, growing}
 use Rattle.gr_model_calls.proofs.joins.SameCalls.{same_calls}
 

@@ -1,14 +1,11 @@
 -- Hosts that start over logs with joins do the same by what their views show as on the net of the last joins
-use Rattle.std.proofs.Common.{◌≡◌, ◌⊎◌, inl, inr, ⊎_elim, ℕ, ◌<◌, Bool, true, false, List, [], ◌++◌, refl, ap, subst}
-use Rattle.std.specs.Prelude.{if◌then◌else◌}
+use Rattle.std.proofs.Common.{◌≡◌, ⊎_elim, ℕ, ◌<◌, Bool, true, false, [], ◌++◌, refl, ap}
 use Rattle.gr_event.specs.declared.event.Event.{Event}
 use Rattle.gr_event.specs.Joins.{Joins}
 use Rattle.gr_know.specs.declared.values.K.TheVariants.{Q, D}
-use Rattle.gr_know.specs.Values.{Known, known_at}
-use Rattle.gr_model.specs.declared.report.Report.{Report}
 use Rattle.gr_model.specs.Net.{Net, with_wants, wants_with, not_empty}
-use Rattle.gr_model.specs.Broker.{View, Log, learn, seen}
-use Rattle.gr_model.specs.World.{World, Transition, view_of, log_of, absorbed, unchanged, followed_by}
+use Rattle.gr_model.specs.Broker.{View, learn, seen}
+use Rattle.gr_model.specs.World.{World, Transition, view_of, log_of, absorbed, unchanged}
 use Rattle.gr_model.specs.Opening.{opened_for_by, reopened_line}
 use Rattle.gr_model.specs.Tree.{IsNet}
 use Rattle.gr_model_calls.specs.Fits.{WorldFits}

@@ -1,6 +1,6 @@
 -- Each call does the same by what its view shows as on the net of the last joins
-use Rattle.std.proofs.Common.{◌≡◌, ◌⊎◌, inl, inr, ⊎_elim, ℕ, suc, ◌+◌, ◌-◌, ◌≤◌, ◌<◌, max, Bool, true, false, List, [], ◌∷◌, ◌++◌, length, set, get_or, refl, sym, ap, ◌∙◌, subst, Option, Some, None, arith, le_refl, le_trans}
-use Rattle.std.specs.Prelude.{nat_eq, nat_le, nat_lt}
+use Rattle.std.proofs.Common.{◌≡◌, ◌⊎◌, inl, inr, ⊎_elim, ℕ, suc, ◌-◌, ◌<◌, max, true, false, [], ◌∷◌, ◌++◌, refl, sym, ap, ◌∙◌, subst, None, arith, le_refl, le_trans}
+use Rattle.std.specs.Prelude.{nat_le, nat_lt}
 use Rattle.std.proofs.lemmas.Bool.{eq-eqb}
 use Rattle.std.proofs.lemmas.List.{get_or-set_same}
 use Rattle.gr_event.specs.declared.event.Event.{Event}
@@ -8,12 +8,11 @@ use Rattle.gr_event.specs.Joins.{Joins, longer, has_joined}
 use Rattle.gr_frame.specs.declared.Body.{Body}
 use Rattle.gr_frame.specs.declared.Body.TheVariants as body
 use Rattle.gr_frame.specs.declared.Frame.{Frame}
-use Rattle.gr_know.specs.declared.values.K.{K}
 use Rattle.gr_know.specs.declared.values.K.TheVariants.{Q, D}
 use Rattle.gr_tick.specs.Runs.{AreRuns}
-use Rattle.gr_know.specs.Values.{Known, known_at}
+use Rattle.gr_know.specs.Values.{Known}
 use Rattle.gr_model.specs.Net.{Net, with_wants, wants_with}
-use Rattle.gr_model.specs.Broker.{View, Log, Outcome, seen, taking, view_joined, with_event, with_join, with_joins, drops, learn, curiosity, expect, wake, publish, joining, receive, place_of, empty_log, silence, max_tick}
+use Rattle.gr_model.specs.Broker.{View, Log, Outcome, seen, taking, view_joined, with_event, with_join, with_joins, drops, learn, curiosity, expect, publish, joining, receive, place_of, empty_log, silence, max_tick}
 use Rattle.gr_model.specs.World.{World, view_of, log_of, absorbed, wake_for_by, deliver_frame_by, publish_now_by, join_now_by}
 use Rattle.gr_model.specs.Tree.{IsNet}
 use Rattle.gr_model_calls.specs.Truth.{Facts, Holds, HasEvent, Grows, KnowsTruth}

@@ -1,19 +1,18 @@
 -- A call that obeys its rule on the net of the last joins obeys it on the net that its broker sees
-use Rattle.std.proofs.Common.{◌≡◌, ◌≢◌, ◌⊎◌, inl, inr, ⊎_elim, ℕ, suc, ◌<◌, ◌≤◌, Bool, true, false, not, ◌&&◌, List, [], ◌∷◌, ◌++◌, map, refl, sym, ap, ◌∙◌, Option, Some, None}
-use Rattle.std.specs.Prelude.{nat_eq, nat_lt, nat_le, if◌then◌else◌, filter, flat_map}
+use Rattle.std.proofs.Common.{◌≡◌, ⊎_elim, ℕ, Bool, true, false, ◌&&◌, List, [], ◌∷◌, ◌++◌, map, sym, ap, ◌∙◌, Some, None}
+use Rattle.std.specs.Prelude.{nat_eq, nat_lt, nat_le, if◌then◌else◌, flat_map}
 use Rattle.std.proofs.Math.Path.{fun_ext}
-use Rattle.std.proofs.lemmas.Bool.{cases_Bool}
 use Rattle.gr_event.specs.declared.event.Event.{Event}
 use Rattle.gr_know.specs.declared.values.K.{K}
 use Rattle.gr_know.specs.declared.values.K.TheVariants.{Q, S, D, F}
-use Rattle.gr_know.specs.Values.{Known, known_at, is_Q, new_K, join_K}
+use Rattle.gr_know.specs.Values.{Known, known_at, new_K, join_K}
 use Rattle.gr_curio.specs.Values.{Wanted, wanted_at, is_A, is_C}
 use Rattle.gr_model.specs.declared.report.Report.{Report}
 use Rattle.gr_model.specs.declared.report.Report.TheVariants as line
 use Rattle.gr_model_calls.specs.Said.{said_at, TicksRise}
-use Rattle.gr_model.specs.Net.{Net, with_wants, pass}
+use Rattle.gr_model.specs.Net.{Net, with_wants}
 use Rattle.gr_model.specs.Broker.{View, Log, Outcome, delivery_lines, got_line}
-use Rattle.gr_model_calls.specs.Rules.{HasKnown, Forgets, Knows, DeliversOn, NewTicks, ChildAsks, want_at, event_of}
+use Rattle.gr_model_calls.specs.Rules.{Forgets, Knows, DeliversOn, NewTicks, ChildAsks, want_at, event_of}
 use Rattle.gr_model_calls.proofs.calls.Erased.{Wants, Agree, pass_agree, filter_agree, new_event, join_event}
 
 forgets_on : (net : Net) (f g : Wants) (p b h : ℕ) (full kept : Known) → Forgets (with_wants net f) p b h full kept → Forgets (with_wants net g) p b h full kept

@@ -14,7 +14,7 @@ use Rattle.gr_frame.specs.declared.Frame.{Frame}
 use Rattle.gr_tick.specs.Runs.{AreRuns, value_at, zip_runs, is_in}
 use Rattle.gr_know.specs.Values.{Known, known_at, is_Q, join_K, same_K}
 use Rattle.gr_curio.specs.Values.{Wanted, wanted_at, asked_at, is_C, is_A}
-use Rattle.gr_event.specs.Joins.{Joins, longer}
+use Rattle.gr_event.specs.Joins.{Joins}
 use Rattle.gr_model.specs.Net.{Net, is_host, keeps_horizon, pass, wanted_below}
 use Rattle.gr_model.specs.Broker.{View, Log, Outcome, know_frames, want_frames, consolidated, is_consolidated_by, finished, forward, new_ticks, forward_frames, forward_wants, learn, up_frames, place_of, head}
 use Rattle.gr_frame.specs.Bytes.{head_size, cut_from, cut_frames, known_run_size, wanted_run_size}

@@ -17,7 +17,7 @@ use Rattle.gr_model.specs.declared.report.Report.{Report}
 use Rattle.gr_model.specs.declared.report.Report.TheVariants as line
 use Rattle.gr_tick.specs.Runs.{IsNone}
 use Rattle.gr_know.specs.Values.{same_K}
-use Rattle.gr_model.specs.Net.{Net, is_late, all_late, is_host, not_empty, numbers, numbers_from, keeps_horizon}
+use Rattle.gr_model.specs.Net.{Net, all_late, is_host, not_empty, numbers, numbers_from, keeps_horizon}
 use Rattle.gr_model.specs.Broker.{View, Log, empty_log, with_event, event_at, log_at, event_points, log_know, started, is_kept, max_tick}
 use Rattle.gr_model.specs.World.{World, Transition, blank_view, view_of, log_of, unchanged, followed_by, in_turn, frame_at, restarted, crash, sweep_moment, start, start_by, show, opened_lines, kept_events, next_by, publish_stopped_by, run_from_by, sweep_by}
 use Rattle.gr_model_calls.specs.OneNet.{deliver_frame, publish_now, join_now, publish_stopped, wake_all, sweep_for, sweep, next, run_from, run_all}
@@ -33,7 +33,6 @@ use Rattle.gr_model_calls.proofs.calls.Pieces.{one_step, le_step}
 use Rattle.gr_model_calls.proofs.calls.TruthTicks.{TrueF-later}
 use Rattle.gr_model_calls.proofs.calls.CallTruth.{KnowsTruth-by, ViewTrue-later}
 use Rattle.gr_model_calls.proofs.calls.Calls.{silent_true, with_event_fits, said_more}
-use Rattle.gr_event.specs.Joins.{Joins}
 use Rattle.gr_model_calls.proofs.calls.Held.{own, grows_not}
 use Rattle.gr_model_calls.proofs.runs.Worlds.{join_kept, Kept, Kept-after, Kept-still, Kept-refl, if_le, frames_later, reached_here, silent_lines, in_turn_kept, numbers_below, wake_all_kept, deliver_kept, publish_kept, sweep_for_kept}
 

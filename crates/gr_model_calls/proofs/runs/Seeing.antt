@@ -1,5 +1,5 @@
 -- A run in which each call sees a net of its own is the run on one net, where each call does the same on both
-use Rattle.std.proofs.Common.{◌≡◌, ◌⊎◌, inl, inr, ⊎_elim, ℕ, suc, zero, ◌-◌, ◌<◌, max, Bool, true, false, ◌&&◌, List, [], ◌∷◌, ◌++◌, refl, sym, subst, ap, ◌∙◌, length, set, Option, Some, None, arith}
+use Rattle.std.proofs.Common.{◌≡◌, ◌⊎◌, inl, inr, ⊎_elim, ℕ, suc, zero, ◌-◌, ◌<◌, max, Bool, true, false, ◌&&◌, List, [], ◌∷◌, ◌++◌, refl, subst, ap, ◌∙◌, length, set, Option, Some, None, arith}
 use Rattle.std.specs.Prelude.{nat_eq, nat_le, nat_lt, if◌then◌else◌, filter}
 use Rattle.gr_event.specs.declared.event.Event.{Event}
 use Rattle.gr_frame.specs.declared.Frame.{Frame}
@@ -16,7 +16,7 @@ use Rattle.gr_model.specs.World.{World, Transition, log_of, unchanged, followed_
 use Rattle.gr_model_calls.specs.OneNet.{wake_for, wake_all, deliver_frame, publish_now, join_now, deliver_up, wake_up, hand_down, sweep_for, sweep, publish_stopped, next, run_from, run_all, report_of}
 use Rattle.gr_model.specs.Tree.{IsNet}
 use Rattle.gr_model_calls.specs.Fits.{WorldFits, FrameTrue, StepIn, StepsIn}
-use Rattle.gr_model_calls.proofs.runs.Worlds.{Kept, Kept-after, Each, IsLaterWorld, FrameTrue-later, numbers_below, depths_in, wake_for_kept, deliver_kept, in_turn_kept, wake_all_kept, deliver_up_kept, wake_up_kept, hand_down_kept, sweep_for_kept, frames_past_true, filter_frames}
+use Rattle.gr_model_calls.proofs.runs.Worlds.{Kept, Kept-after, Each, IsLaterWorld, FrameTrue-later, numbers_below, depths_in, wake_for_kept, deliver_kept, in_turn_kept, deliver_up_kept, wake_up_kept, hand_down_kept, sweep_for_kept, frames_past_true, filter_frames}
 use Rattle.gr_model_calls.proofs.runs.Schedules.{next_kept, clocked_fits, frame_at_true, start_fits}
 use Rattle.gr_model_calls.proofs.runs.Closed.{clocked, with_logs}
 

@@ -13,7 +13,7 @@ use Rattle.gr_curio.specs.Values.{Wanted}
 use Rattle.gr_sched.specs.declared.step.Line.{Line}
 use Rattle.gr_event.specs.Joins.{Joins, longer}
 use Rattle.gr_model.specs.Net.{Net, is_host, is_late, all_late}
-use Rattle.gr_model.specs.Broker.{with_joins, taking, view_joined, drops, joining, View, Log, Outcome, head, know_frames, want_frames, up_frames, expect_frame, forward, forward_frames, expect_frames, new_ticks, covers, learn, asking, curiosity, expect, marking, cutting, wake, wake_host, wake_below, receive, clashes, place_of, publish, silence, with_mark}
+use Rattle.gr_model.specs.Broker.{with_joins, taking, view_joined, drops, joining, View, Log, Outcome, head, know_frames, want_frames, up_frames, expect_frame, forward, forward_frames, expect_frames, new_ticks, covers, learn, asking, curiosity, expect, marking, cutting, wake, wake_host, wake_below, receive, place_of, publish, silence, with_mark}
 use Rattle.gr_model.specs.World.{join_now_by, World, view_of, log_of, absorbed, frame_at, restarted, start, start_by, deliver_frame_by, publish_now_by, wake_for_by}
 use Rattle.gr_model_calls.specs.OneNet.{join_now, wake_for, deliver_frame, publish_now, run_all}
 use Rattle.gr_model_calls.specs.Edges.{GoesOverEdge}

@@ -10,7 +10,7 @@ use Rattle.gr_sched.specs.declared.step.Line.{Line}
 use Rattle.gr_model.specs.declared.report.Report.{Report}
 use Rattle.gr_model.specs.Net.{Net, with_wants, wants_with}
 use Rattle.gr_model.specs.Tree.{IsNet, IsSubscriber, IsDistinct}
-use Rattle.gr_model.specs.World.{World, Transition, log_of, sent_lines, start, next, next_by, sweep, sweep_moment, run_all, run_from, report_of, report_of_by}
+use Rattle.gr_model.specs.World.{World, Transition, log_of, sent_lines, start, next, next_by, sweep, sweep_moment, run_from, report_of, report_of_by}
 use Rattle.gr_model.specs.Headline.{Recorded, nothing_recorded, History, record_of, settling, is_swept, sweep_at, records_after, history, history_after, begin, expected, last_horizon, GetsExactly, Headline, Holds_from_by, recorded_net, is_sent, is_doubt_line, doubt_place, doubts_shown}
 use Rattle.gr_model.specs.Orders.{Order, orders_over, ordered_steps}
 use Rattle.gr_model.specs.Ordered.{TotallyOrdered, TotallyOrdered_from_by, IsOrdered_by, IsMergedOf, heard_upto, ordered_items}

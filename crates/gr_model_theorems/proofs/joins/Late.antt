@@ -4,7 +4,6 @@ use Rattle.std.specs.Prelude.{nat_eq, nat_le, nat_lt, if◌then◌else◌}
 use Rattle.std.proofs.lemmas.Bool.{and_parts, or_parts, or_from, eqb-true}
 use Rattle.gr_event.specs.declared.event.Event.{Event}
 use Rattle.gr_event.specs.Joins.{Joins, has_joined, joined_below, tick_of, JoinOnce}
-use Rattle.gr_event.specs.declared.join.Join.{Join}
 use Rattle.gr_event.proofs.Joining.{once_with}
 use Rattle.gr_sched.specs.declared.step.Step.{Step}
 use Rattle.gr_sched.specs.declared.step.Step.TheVariants as step

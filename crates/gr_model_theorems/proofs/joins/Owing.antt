@@ -8,7 +8,6 @@ use Rattle.gr_sched.specs.declared.step.Step.{Step}
 use Rattle.gr_sched.specs.declared.step.Step.TheVariants as step
 use Rattle.gr_sched.specs.declared.step.Line.{Line}
 use Rattle.gr_model.specs.declared.report.Report.{Report}
-use Rattle.gr_model.specs.declared.report.Report.TheVariants as line
 use Rattle.gr_model.specs.Net.{Net, is_host, is_late, with_wants, wants_with}
 use Rattle.gr_model.specs.Headline.{Recorded, nothing_recorded, History, record_of, tick_of, is_next, recording, settling, marked, each_record, may_enter, with_joined, sweep_at, is_swept, greatest, says_kept, records_after, clock_after, most_after, Stored, standing_of, is_reclaimed_line, heard_after, unlogged_after, history_after, history, expected, record_lines, IsDoubt, StepReports, Delivered, InOrder, Holds_from_by, recorded_net, last_horizon}
 use Rattle.gr_model_calls.specs.Truth.{Grows}

@@ -11,7 +11,7 @@ use Rattle.gr_model.specs.declared.report.Report.{Report}
 use Rattle.gr_model.specs.Net.{Net, with_wants, wants_with, numbers}
 use Rattle.gr_model.specs.Tree.{IsNet, IsDistinct}
 use Rattle.gr_model.specs.Broker.{Log, seen}
-use Rattle.gr_model.specs.World.{World, Transition, log_of, run_from}
+use Rattle.gr_model.specs.World.{World, Transition, log_of}
 use Rattle.gr_model.specs.Opening.{begin_over}
 use Rattle.gr_model.specs.Headline.{History, Holds_from, recorded_net}
 use Rattle.gr_model.specs.Arrivals.{Arrival, requests_of, served, served_by, served_from_by, arrived_by, Request}

@@ -13,7 +13,7 @@ use Rattle.gr_model.specs.declared.report.Report.{Report}
 use Rattle.gr_model.specs.declared.report.Report.TheVariants as line
 use Rattle.gr_model.specs.Net.{numbers, numbers_from}
 use Rattle.gr_model.specs.Headline.{last_horizon, delivered_events}
-use Rattle.gr_model.specs.Orders.{Held, Said, event_of, horizon_of, nothing, said_of, got, moved, said}
+use Rattle.gr_model.specs.Orders.{Held, Said, event_of, horizon_of, nothing, said_of, moved, said}
 use Rattle.gr_model_calls.proofs.calls.Telling.{last_horizon-append}
 use Rattle.gr_model_theorems.proofs.order.Told.{brought, item, is_past, is_next, brings, brings_all, said_all, rested, end, heard_in, begun}
 

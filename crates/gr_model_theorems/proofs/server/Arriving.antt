@@ -28,7 +28,7 @@ use Rattle.gr_model_calls.specs.OneNet.{deliver_frame, publish_now, wake_all, ne
 use Rattle.gr_model_calls.specs.Edges.{GoesBetween, GoesOverEdge}
 use Rattle.gr_model.specs.Headline.{is_sent, sent_number}
 use Rattle.gr_model_theorems.specs.Replies.{frame_of_line}
-use Rattle.gr_model.specs.Arrivals.{asks_publish, asks_join, joins_in, split_line, Arrival, datagram, quiet, Publish, at_moment, fits_broker, clash_runs, first_of, least_clash, clash_line, fault_number, publisher_of, submitted_in, comes_by, quieted_by, receives_by, takes_by, notes_by, Request}
+use Rattle.gr_model.specs.Arrivals.{asks_publish, asks_join, joins_in, split_line, Arrival, datagram, quiet, Publish, at_moment, fits_broker, clash_runs, first_of, least_clash, clash_line, publisher_of, submitted_in, comes_by, quieted_by, receives_by, takes_by, notes_by, Request}
 use Rattle.gr_model_theorems.specs.Served.{tells_bytes, number_of_bytes, as_line, request_step, delivery_step, is_frame, submitted_step, note_step, steps_at, dropped_as, unsubmitted_as, note_dropped_as, dropped_line}
 use Rattle.gr_model.specs.Tree.{IsNet}
 use Rattle.gr_model_calls.specs.Fits.{WorldFits}

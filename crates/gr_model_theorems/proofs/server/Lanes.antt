@@ -1,7 +1,7 @@
 -- Logs that forget lead to the same lines as logs that keep all: an opening, arrivals, and steps over both. And a log that was opened
 -- is an old log where it keeps its events
 use Rattle.std.proofs.Common.{◌≡◌, ℕ, suc, zero, ◌-◌, ◌≤◌, ◌<◌, Bool, true, false, List, [], ◌∷◌, ◌++◌, map, length, get_or, refl, sym, ap, ap₂, ◌∙◌, subst, Option, Some, None, Result, Ok, Err, arith}
-use Rattle.std.specs.Prelude.{not, if◌then◌else◌, flat_map}
+use Rattle.std.specs.Prelude.{if◌then◌else◌, flat_map}
 use Rattle.std.specs.List.{AllByRecursion}
 use Rattle.std.proofs.lemmas.Bool.{and_from, ne_eqb}
 use Rattle.gr_event.specs.Limits.{IsEvent}

@@ -14,7 +14,7 @@ use Rattle.gr_model.specs.Net.{Net, is_host, keeps_horizon, not_empty, numbers, 
 use Rattle.gr_model.specs.Broker.{View, Log, data_ticks, got_line, delivery_lines, learn, started}
 use Rattle.gr_model.specs.World.{World, Transition, view_of, log_of, absorbed, unchanged, in_turn, sent_lines}
 use Rattle.gr_model.specs.Opening.{over_logs, reopened_line, publishers_at, opened_for_by, opening_by}
-use Rattle.gr_model_calls.specs.OneNet.{opened_for, opening}
+use Rattle.gr_model_calls.specs.OneNet.{opened_for}
 use Rattle.gr_model_theorems.specs.Found.{AreReopened, got_at_once, told_at_opening}
 use Rattle.gr_model_calls.specs.Said.{due_upto, due_between}
 use Rattle.gr_model_calls.specs.Truth.{Facts, KnowsTruth}

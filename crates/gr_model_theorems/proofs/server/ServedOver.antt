@@ -10,7 +10,7 @@ use Rattle.gr_model.specs.Net.{Net, not_empty, numbers}
 use Rattle.gr_model.specs.Broker.{Log, learn, started}
 use Rattle.gr_model.specs.World.{World, Transition, view_of, log_of, absorbed, unchanged, in_turn}
 use Rattle.gr_model.specs.Opening.{reopened_log, over_logs, publishers_at, begin_over, opened_for_by, opening_by}
-use Rattle.gr_model_calls.specs.OneNet.{opened_for, opening, served}
+use Rattle.gr_model_calls.specs.OneNet.{opened_for, served}
 use Rattle.gr_model_theorems.specs.Found.{AreReopened}
 use Rattle.gr_model.specs.Arrivals.{Arrival, requests_of, served_by}
 use Rattle.gr_model_theorems.specs.Served.{IsOfBytes, IsHonestRun, AllDoSteps, HeadlineServed_by}
