@@ -1,3 +1,4 @@
 pub mod Text
+pub mod Steps
 pub mod Summary
 pub mod Report

@@ -1,14 +1,11 @@
 -- What a soak prints
-use Rattle.std.specs.Prelude.{ℕ, List, [], ◌++◌, codes}
+use Rattle.std.specs.Prelude.{ℕ, List, ◌++◌, codes}
 use Rattle.std.specs.Fmt.{decimal}
 use Rattle.gr_model.specs.NetOf.{net_of}
 use Rattle.gr_model.specs.World.{report_of}
-use Rattle.gr_scenario.specs.declared.asked.Asked.{Asked}
-use Rattle.gr_scenario.specs.declared.asked.Asked.TheVariants.{Scenario}
-use Rattle.gr_scenario.specs.Scenario.{asked_by}
 use Rattle.gr_soak.specs.declared.summary.Summary.{Summary}
 use Rattle.gr_soak.specs.Summary.{summary_of}
-use Rattle.gr_soak.specs.Text.{soak_text}
+use Rattle.gr_soak.specs.Steps.{soak_topology, soak_steps}
 
 -- a word and a number, as a line
 unfoldable pub row_text : List ℕ → ℕ → List ℕ
@@ -27,11 +24,6 @@ summary_text n s =
     ++ (row_text (codes "behind") s.behind
     ++ row_text (codes "kept") s.kept)))))))
 
--- over what is asked: the summary of the report of a scenario, and nothing for what is none
-abbrev pub summary_over : ℕ → Asked → List ℕ
-summary_over n (Scenario t lines) = summary_text n (summary_of (report_of (net_of t) lines))
-summary_over n _ = []
-
 -- the summary of the report of the soak's scenario
 unfoldable pub soak_report : ℕ → List ℕ
-soak_report n = summary_over n (asked_by (soak_text n))
+soak_report n = summary_text n (summary_of (report_of (net_of soak_topology) (soak_steps n)))

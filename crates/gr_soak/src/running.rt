@@ -16,6 +16,7 @@ ghost use Rattle.std.specs.List.{count_by};
 ghost use Rattle.gr_soak.specs.Summary.{is_logged, is_got, last_lines, summary_of};
 ghost use Rattle.gr_soak.specs.Report.{summary_text, soak_report};
 
+use crate::law::soaks_are_scenarios;
 use crate::summary::{Summary, behind_in, frames_in, got_in, kept_in, logged_in, summary_text};
 use crate::text::{MAX_TURNS, soak_text};
 use gr_event::Text;
@@ -51,19 +52,20 @@ pub fn soak<K: Sink>(alloc: Global, n: u64, sink: &mut K) -> Result<(), RunFault
     }
 }
 
-/// The lines that a soak of `n` turns prints. That its text reads as a scenario is not proved: another answer would be
-/// told as want of memory.
+/// The lines that a soak of `n` turns prints.
 fn soak_lines(alloc: Global, n: u64) -> Result<Text, Memory>
     requires { (1 ≤ n) × (n ≤ MAX_TURNS) }
     ensures { IfOk result (λ lines. lines ≡ soak_report n) }
 {
     let text = soak_text(alloc, n)?;
+    // Proof only: the text reads as a scenario.
+    soaks_are_scenarios();
     match read(alloc, text.as_slice())? {
         Asked::Scenario { topology, steps } => {
             let summary = summary_of(alloc, topology, &steps)?;
             summary_text(alloc, n, &summary)
         }
-        Asked::TooManyBytes | Asked::TooManySteps | Asked::Refused(_) => Err(AllocError),
+        Asked::TooManyBytes | Asked::TooManySteps | Asked::Refused(_) => unreachable!(),
     }
 }
 
