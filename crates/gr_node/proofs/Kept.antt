@@ -30,10 +30,10 @@ use Rattle.gr_node.specs.Seen.{NodeView, broker_in, log_at, log_here}
 use Rattle.gr_node.specs.Of.{NodeFits}
 use Rattle.gr_node.specs.Plan.{Call, publishes, joins, wakes}
 use Rattle.gr_node.specs.Done.{Done, taken_up, done_by, done_at, call_done}
-use Rattle.gr_node.specs.Lasting.{Onward, log_read, HoldsBetween, CallKeeps}
+use Rattle.gr_node.specs.Lasting.{Onward, SettlesOn, log_read, HoldsBetween, CallKeeps}
 use Rattle.gr_node.proofs.Exchanged.{some_within}
 use Rattle.gr_node.proofs.Lasting.{one_between, two_between, none_called, one_called}
-use Rattle.gr_node.proofs.Onwards.{publish_onward, mark_onward, join_onward, cut_onward}
+use Rattle.gr_node.proofs.Onwards.{publish_onward, mark_settles, join_onward, cut_onward}
 
 -- The log after a call
 
@@ -189,5 +189,5 @@ module _ (t : TopologyView) (n : NodeView) (fits : NodeFits t n) (b p : ℕ) (x 
             (log_then (wakes b p) (after_wake t x p n.now) (wake_at t x p n.now) l (with_cut_if (with_logged (log_in x p) mark) cut reclaim) (wake_at t x p n.now).view e refl done
             ∙ (ap (λ (o : Option LogView). log_said (with_cut_if (with_logged o mark) cut reclaim)) e ∙ cut_said l mark cut reclaim))
             (λ u v left. two_between t.late l (theirs l e) mark cut reclaim
-            (subst (λ (o : Option LogView). Onward (log_read l.state) (log_read (state_if (mark_of (quieted (log_said o) n.now t.settings.quiet)) l.state))) (sym e) (mark_onward l n.now t.settings.quiet))
+            (subst (λ (o : Option LogView). SettlesOn (log_read l.state) (log_read (state_if (mark_of (quieted (log_said o) n.now t.settings.quiet)) l.state))) (sym e) (mark_settles l n.now t.settings.quiet))
             (cut_onward (state_if mark l.state) cut (cut_later l e)) u v (a.any_moment (whole l e) u v left))

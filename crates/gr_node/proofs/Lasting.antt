@@ -1,5 +1,5 @@
 -- What the lanes of a publisher had lasts: through a call on its log, through acts one after another, and through a start
-use Rattle.std.proofs.Common.{◌≡◌, ◌≢◌, ◌⊎◌, inl, inr, ℕ, suc, ◌<◌, ◌≤◌, Bool, true, false, List, [], ◌∷◌, ◌++◌, length, take, Option, Some, None, Ok, refl, sym, ap, ◌∙◌, subst, arith, append_assoc, append-nil, length-append}
+use Rattle.std.proofs.Common.{◌≡◌, ◌≢◌, ◌⊎◌, inl, inr, ℕ, suc, ◌<◌, ◌≤◌, Bool, true, false, List, [], ◌∷◌, ◌++◌, length, take, Option, Some, None, Ok, refl, sym, ap, ◌∙◌, subst, arith, le_refl, append_assoc, append-nil, length-append}
 use Rattle.std.proofs.lemmas.Bool.{cases_eq, cases_lt, false≢true}
 use Rattle.std.proofs.lemmas.List.{take-append-le, take_at}
 use Rattle.gr_out.specs.Lane.{Lane, Call as DiskCall, content, moment, LeftAfter, LeftFrom}
@@ -23,9 +23,9 @@ use Rattle.gr_node.specs.Seen.{NodeView, log_here}
 use Rattle.gr_node.specs.Of.{IsSet, AllStand}
 use Rattle.gr_node.specs.Plan.{Call, Act, calls, closing, turn_acts}
 use Rattle.gr_node.specs.Done.{Done, call_done, all_done}
-use Rattle.gr_node.specs.Lasting.{Onward, log_read, HoldsBetween, IsFound, Along, CallKeeps, log_after, IsDuring, ActsKeep, StartsKeep, acts_came, StoodAfter, StoodEachTime}
+use Rattle.gr_node.specs.Lasting.{Onward, IsAlike, SettlesOn, log_read, HoldsBetween, IsFound, Along, CallKeeps, log_after, IsDuring, ActsKeep, StartsKeep, acts_came, StoodAfter, StoodEachTime}
 use Rattle.gr_node.proofs.Pairs.{lanes_same, away, others_same}
-use Rattle.gr_node.proofs.Onwards.{onward_alike, onward_then, said_read, appended_alike, cut_alike}
+use Rattle.gr_node.proofs.Onwards.{onward_alike, settles_onward, onward_then, said_read, appended_alike, cut_alike}
 use Rattle.gr_node.proofs.Wending.{done_append, call_is}
 
 -- Images
@@ -78,12 +78,16 @@ module _ (late : List ℕ) (l : LogView) (theirs : l.state.late ≡ late) where
   late_cut s None is = is
   late_cut s (Some tick) is = is
 
+  -- what the view says is what its state reads as
+  nothing_more : SettlesOn (said l) (log_read l.state)
+  nothing_more = record { last = refl; settled = le_refl l.state.settled; cut = refl; events = refl; joins = refl }
+
   -- one record, or none
   pub one_between : (r : Option Record) → Onward (log_read l.state) (log_read (state_if r l.state)) → (a b : List ℕ) → ReadsAs l.state a b ⊎ ReadsAs (state_if r l.state) a b
       → HoldsBetween late (said l) (said (appended_if r l)) a b
   one_between r up a b h = elim h [
-    | inl e ↦ (l.state, reads l.state a b theirs e, first, onward_then (log_read l.state) (log_read (state_if r l.state)) (said (appended_if r l)) up last)
-    | inr e ↦ (state_if r l.state, reads (state_if r l.state) a b (late_if r) e, onward_then (said l) (log_read l.state) (log_read (state_if r l.state)) first up, last)
+    | inl e ↦ (l.state, reads l.state a b theirs e, first, onward_then (log_read l.state) (log_read (state_if r l.state)) (said (appended_if r l)) up last, inl nothing_more)
+    | inr e ↦ (state_if r l.state, reads (state_if r l.state) a b (late_if r) e, onward_then (said l) (log_read l.state) (log_read (state_if r l.state)) first up, last, inr (appended_alike r l))
   ]
     where
       first : Onward (said l) (log_read l.state)
@@ -97,17 +101,18 @@ module _ (late : List ℕ) (l : LogView) (theirs : l.state.late ≡ late) where
   state_is (Some r) = refl
 
   -- a mark, or none, and a cut, or none
-  pub two_between : (r : Option Record) (cut : Option ℕ) (reclaim : ℕ) → Onward (log_read l.state) (log_read (state_if r l.state)) → Onward (log_read (state_if r l.state)) (log_read (cut_state cut (state_if r l.state)))
+  pub two_between : (r : Option Record) (cut : Option ℕ) (reclaim : ℕ) → SettlesOn (log_read l.state) (log_read (state_if r l.state)) → Onward (log_read (state_if r l.state)) (log_read (cut_state cut (state_if r l.state)))
       → (a b : List ℕ) → ReadsAs l.state a b ⊎ (ReadsAs (state_if r l.state) a b ⊎ ReadsAs (cut_state cut (state_if r l.state)) a b)
       → HoldsBetween late (said l) (said (cut_if cut reclaim (appended_if r l))) a b
-  two_between r cut reclaim one two a b h = elim h [
-    | inl e ↦ (l.state, reads l.state a b theirs e, first, onward_then s m (said end) one (onward_then m k (said end) two last))
-    | inr (inl e) ↦ (state_if r l.state, reads (state_if r l.state) a b (late_if r) e, onward_then (said l) s m first one, onward_then m k (said end) two last)
+  two_between r cut reclaim marks two a b h = elim h [
+    | inl e ↦ (l.state, reads l.state a b theirs e, first, onward_then s m (said end) one (onward_then m k (said end) two last), inl nothing_more)
+    | inr (inl e) ↦ (state_if r l.state, reads (state_if r l.state) a b (late_if r) e, onward_then (said l) s m first one, onward_then m k (said end) two last, inl (record { last = marks.last; settled = marks.settled; cut = marks.cut; events = marks.events; joins = marks.joins }))
     | inr (inr e) ↦ (
       cut_state cut (state_if r l.state),
       reads (cut_state cut (state_if r l.state)) a b (late_cut (state_if r l.state) cut (late_if r)) e,
       onward_then (said l) m k (onward_then (said l) s m first one) two,
       last,
+      inr alike,
     )
   ]
     where
@@ -126,9 +131,14 @@ module _ (late : List ℕ) (l : LogView) (theirs : l.state.late ≡ late) where
       first : Onward (said l) s
       first = onward_alike (said l) s (said_read l)
 
+      one : Onward s m
+      one = settles_onward s m marks
+
+      alike : IsAlike k (said end)
+      alike = subst (λ (x : LogState). IsAlike (log_read (cut_state cut x)) (said end)) (state_is r) (cut_alike cut reclaim (appended_if r l))
+
       last : Onward k (said end)
-      last = subst (λ (x : LogState). Onward (log_read (cut_state cut x)) (said end)) (state_is r)
-          (onward_alike (log_read (cut_state cut (appended_if r l).state)) (said end) (cut_alike cut reclaim (appended_if r l)))
+      last = onward_alike k (said end) alike
 
 -- none was called, or those of one publisher
 module _ (t : TopologyView) (n : NodeView) (c : Call) (lanes lanes' : ℕ → Lane) where

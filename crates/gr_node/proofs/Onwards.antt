@@ -24,7 +24,7 @@ use Rattle.gr_pubend.specs.Cuts.{cut_if, cut_state}
 use Rattle.gr_pubend.proofs.Found.{pairs_past, past_twice}
 use Rattle.gr_pubend.proofs.Opening.{pairs_more}
 use Rattle.gr_model.specs.declared.report.Report.{Report}
-use Rattle.gr_node.specs.Lasting.{Onward, log_read}
+use Rattle.gr_node.specs.Lasting.{Onward, IsAlike, SettlesOn, log_read}
 use Rattle.gr_node.specs.Submitted.{RiseWithin, Logs}
 
 -- Events past a tick
@@ -46,18 +46,22 @@ past_on a b xs ys zs more new l one two =
 
 -- Logs
 
--- two logs say the same, whatever generation and size their text has
-pub record IsAlike (l m : Log) : Type 0 where
-  pub last : m.last ≡ l.last
-  pub settled : m.settled ≡ l.settled
-  pub cut : m.cut ≡ l.cut
-  pub events : m.events ≡ l.events
-  pub joins : m.joins ≡ l.joins
-
 pub onward_alike : (l m : Log) → IsAlike l m → Onward l m
 onward_alike l m a = record {
   last = omega (arith, a.last);
   settled = omega (arith, a.settled);
+  cut = omega (arith, a.cut);
+  more_joins = [];
+  joins = a.joins ∙ sym (append-nil l.joins);
+  more = [];
+  events = ap (past m.cut) (a.events ∙ sym (append-nil l.events));
+}
+
+-- one that is settled further
+pub settles_onward : (l m : Log) → SettlesOn l m → Onward l m
+settles_onward l m a = record {
+  last = omega (arith, a.last);
+  settled = a.settled;
   cut = omega (arith, a.cut);
   more_joins = [];
   joins = a.joins ∙ sym (append-nil l.joins);
@@ -98,17 +102,6 @@ module _ (s : LogState) where
     joins = sym (append-nil s.joins);
     more = (tick, e) ∷ [];
     events = ap (past s.cut) (pairs_more s.events (record { tick = tick; number = number; event = e }));
-  }
-
-  with_mark : (tick : ℕ) → s.settled ≤ tick → Onward (log_read s) (log_read (after_record s (entry.Mark tick)))
-  with_mark tick settled = record {
-    last = le_refl s.last;
-    settled = settled;
-    cut = le_refl s.cut;
-    more_joins = [];
-    joins = sym (append-nil s.joins);
-    more = [];
-    events = ap (past s.cut) (sym (append-nil (pairs s.events)));
   }
 
   with_join : (tick x : ℕ) → s.settled ≤ tick → Onward (log_read s) (log_read (after_record s (entry.Join tick x)))
@@ -157,16 +150,17 @@ module _ (l : LogView) where
       go false false true x = same s
       go false false false x = with_event s at number e (omega (arith, leb-false number s.last x)) (omega arith)
 
-  pub mark_onward : (now quiet : ℕ) → Onward (log_read s) (log_read (state_if (mark_of (quieted (said l) now quiet)) s))
+  -- what a mark adds, where there is one, is settled alone
+  pub mark_settles : (now quiet : ℕ) → SettlesOn (log_read s) (log_read (state_if (mark_of (quieted (said l) now quiet)) s))
   unfolding quieted
-  mark_onward now quiet = go (nat_le (s.settled + quiet) now) refl
+  mark_settles now quiet = go (nat_le (s.settled + quiet) now) refl
     where
       news : Known
       news = silence (suc s.settled) now []
 
-      go : (a : Bool) → nat_le (s.settled + quiet) now ≡ a → (let answer : Quieted = elim a [ true ↦ Marked now news | false ↦ NotYet ] in Onward (log_read s) (log_read (state_if (mark_of answer) s)))
-      go true x = with_mark s now (omega (arith, leb-true (s.settled + quiet) now x))
-      go false x = same s
+      go : (a : Bool) → nat_le (s.settled + quiet) now ≡ a → (let answer : Quieted = elim a [ true ↦ Marked now news | false ↦ NotYet ] in SettlesOn (log_read s) (log_read (state_if (mark_of answer) s)))
+      go true x = record { last = refl; settled = omega (arith, leb-true (s.settled + quiet) now x); cut = refl; events = refl; joins = refl }
+      go false x = record { last = refl; settled = le_refl s.settled; cut = refl; events = refl; joins = refl }
 
   pub join_onward : (x now : ℕ) → Onward (log_read s) (log_read (state_if (join_of (joined_at (said l) x now) x) s))
   unfolding joined_at

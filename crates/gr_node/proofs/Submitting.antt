@@ -1,6 +1,6 @@
 -- What a run logs for a publisher with a client: publishes of it come of notes alone, so each event that is logged is the one that the
 -- client submits with its number
-use Rattle.std.proofs.Common.{◌≡◌, ℕ, zero, suc, ◌^◌, ◌≤◌, ◌<◌, min, Bool, true, false, not, List, [], ◌∷◌, ◌++◌, map, length, take, drop, Option, Some, None, Result, Ok, Err, refl, sym, ap, ap₂, ◌∙◌, subst, arith, append-nil, length-take, length-drop, take-add}
+use Rattle.std.proofs.Common.{◌≡◌, ℕ, zero, suc, ◌^◌, ◌≤◌, ◌<◌, min, Bool, true, false, not, List, [], ◌∷◌, ◌++◌, map, length, take, drop, Option, Some, None, Result, Ok, Err, refl, sym, ap, ap₂, ◌∙◌, subst, arith, inl, inr, append-nil, append_assoc, length-take, length-drop, take-add}
 use Rattle.std.specs.Prelude.{if◌then◌else◌, flat_map, slice_get, is_some, IsSome}
 use Rattle.std.specs.List.{AllByRecursion, list_any}
 use Rattle.std.proofs.lemmas.Bool.{and_parts, true≢false}
@@ -27,8 +27,9 @@ use Rattle.gr_model.specs.Opening.{reopened_log, over_logs}
 use Rattle.gr_model.specs.Arrivals.{Arrival, datagram, quiet, Publish, Request, asks_publish, asks_join, publisher_of, takes_notes, submitted_in, is_hosted, is_scheduled, requests_of, left_after}
 use Rattle.gr_model_calls.proofs.runs.Schedules.{get_numbers, length_numbers}
 use Rattle.gr_node.specs.Plan.{Call, gets, wakes, Act, binds, starts, calls, settles, shows, is_ours, request_calls, wake_calls, submit_acts, note_acts, datagram_acts, acts_of, settling, led_to, acts_from, closing, turn_acts, run_acts, nodes, plan, all_entries}
-use Rattle.gr_node.specs.Served.{Course, world_before}
-use Rattle.gr_node.specs.Submitted.{IsSubmission, AreSubmissions, IsFirstOf, Logs, log_found, after_acts, AreFirst, IsOfClient, offers_next}
+use Rattle.gr_node.specs.Lasting.{IsAlike, SettlesOn, log_read}
+use Rattle.gr_node.specs.Served.{Course, world_before, IsReachedFrom}
+use Rattle.gr_node.specs.Submitted.{IsSubmission, AreSubmissions, RiseWithin, IsFirstOf, Logs, log_found, after_acts, AreFirst, IsOfClient, HoldsFirstOf, offers_next}
 use Rattle.gr_node.proofs.Acting.{all_front, all_append}
 use Rattle.gr_node.proofs.Notes.{submits}
 use Rattle.gr_node.proofs.Taken.{some_is}
@@ -315,3 +316,42 @@ module _ (t : TopologyView) (hosted : List ℕ) (steps : List Line) (c : Course)
   next_answered n below small e =
       acts_say t hosted p n small any_event done (world_before t c) (omega (arith, below, logs_before t c))
       (first_are p any_event t hosted steps c done first (all_pass (IsRequest p any_event) (any_request p) (requests_of (net_of t) hosted steps)) (all_pass (IsNoted (net_of t) p any_event) (any_noted (net_of t) p) c.came)) e
+
+-- Images
+
+-- a log that is settled further has the events that it had
+settles_first : (es : List Event) (l m : Log) → SettlesOn l m → IsFirstOf es l → IsFirstOf es m
+settles_first es l m s first = record {
+  within = omega (arith, first.within, s.last);
+  logged = first.logged;
+  ticks = subst (RiseWithin 0 m.settled) (append-nil first.logged) (rise_on 0 l.settled m.settled first.logged [] first.ticks s.settled);
+  events = first.events ∙ ap (λ k. take k es) (sym s.last);
+  past_cut = ap₂ past s.cut s.events ∙ (first.past_cut ∙ ap (λ k. past k first.logged) (sym s.cut));
+}
+
+-- one that another says the same of has those of the other
+alike_first : (es : List Event) (l m : Log) → IsAlike l m → IsFirstOf es m → IsFirstOf es l
+alike_first es l m a first = record {
+  within = omega (arith, first.within, a.last);
+  logged = first.logged;
+  ticks = subst (λ k. RiseWithin 0 k first.logged) a.settled first.ticks;
+  events = first.events ∙ ap (λ k. take k es) a.last;
+  past_cut = ap₂ past (sym a.cut) (sym a.events) ∙ (first.past_cut ∙ ap (λ k. past k first.logged) a.cut);
+}
+
+-- what the plan reached is a log of the first events
+pub images_first : (t : TopologyView) (hosted : List ℕ) (steps : List Line) (c : Course) (done : List Act) (p : ℕ) (es : List Event) (a b : List ℕ) → IsOfClient t c p es → IsFirstOf es (log_found c p)
+    → IsReachedFrom t hosted steps c done p a b → HoldsFirstOf t.late es a b
+images_first t hosted steps c done p es a b of is h =
+    let x = h.holds in
+    let one : List Act = done ++ h.made in
+    let two : List Act = done ++ (h.made ++ h.next) in
+    let first : AreFirst t hosted steps c one = record { left = h.next ++ h.left; parts = append_assoc done h.made (h.next ++ h.left) ∙ h.parts } in
+    let last : AreFirst t hosted steps c two = record { left = h.left; parts = append_assoc done (h.made ++ h.next) h.left ∙ (ap (λ (l : List Act). done ++ l) (append_assoc h.made h.next h.left) ∙ h.parts) } in (
+      x.0,
+      x.1,
+      elim x.4 [
+        | inl s ↦ settles_first es (log_of (after_acts t hosted c one).world p) (log_read x.0) s (stay_first t hosted steps c one first p es of is)
+        | inr s ↦ alike_first es (log_read x.0) (log_of (after_acts t hosted c two).world p) s (stay_first t hosted steps c two last p es of is)
+      ],
+    )

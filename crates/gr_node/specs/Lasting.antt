@@ -1,5 +1,5 @@
 -- What the lanes of publishers had at some time, and a crash at any moment since then leaves
-use Rattle.std.specs.Prelude.{◌≡◌, ℕ, ◌<◌, ◌≤◌, Bool, true, List, [], ◌∷◌, ◌++◌, length, take, Ok}
+use Rattle.std.specs.Prelude.{◌≡◌, ◌⊎◌, ℕ, ◌<◌, ◌≤◌, Bool, true, List, [], ◌∷◌, ◌++◌, length, take, Ok}
 use Rattle.gr_event.specs.declared.event.Event.{Event}
 use Rattle.gr_event.specs.declared.join.Join.{Join}
 use Rattle.gr_out.specs.Lane.{Lane}
@@ -44,13 +44,31 @@ pub record Onward (l m : Log) : Type 0 where
   pub more : List (ℕ × Event)
   pub events : past m.cut m.events ≡ past m.cut (l.events ++ more)
 
+-- Two logs say the same, whatever generation and size their text has
+pub record IsAlike (l m : Log) : Type 0 where
+  pub last : m.last ≡ l.last
+  pub settled : m.settled ≡ l.settled
+  pub cut : m.cut ≡ l.cut
+  pub events : m.events ≡ l.events
+  pub joins : m.joins ≡ l.joins
+
+-- A log has what an earlier one has, and no more, but that it may be settled further
+pub record SettlesOn (l m : Log) : Type 0 where
+  pub last : m.last ≡ l.last
+  pub settled : l.settled ≤ m.settled
+  pub cut : m.cut ≡ l.cut
+  pub events : m.events ≡ l.events
+  pub joins : m.joins ≡ l.joins
+
 -- a pair of images holds, where these subscribers may join, a log that goes on from this one
 abbrev pub HoldsOnward : List ℕ → Log → List ℕ → List ℕ → Type 0
 HoldsOnward late l a b = (s : LogState) × (state_in late a b ≡ Ok s) × Onward l (log_read s)
 
--- and from which another one goes on
+-- and from which another one goes on. It has no more than the first, but that it may be settled further, or says what
+-- the other says
 abbrev pub HoldsBetween : List ℕ → Log → Log → List ℕ → List ℕ → Type 0
 HoldsBetween late l m a b = (s : LogState) × (state_in late a b ≡ Ok s) × Onward l (log_read s) × Onward (log_read s) m
+    × (SettlesOn l (log_read s) ⊎ IsAlike (log_read s) m)
 
 -- it holds what a pair holds that a crash might have left of these lanes, or has its fault
 abbrev pub IsFound : List ℕ → Lanes → List ℕ → List ℕ → Type 0

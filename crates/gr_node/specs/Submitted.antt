@@ -20,6 +20,7 @@ use Rattle.gr_model.specs.declared.report.Report.TheVariants as line
 use Rattle.gr_model.specs.NetOf.{net_of}
 use Rattle.gr_model.specs.World.{Transition, in_turn}
 use Rattle.gr_model.specs.Arrivals.{Arrival, datagram, quiet}
+use Rattle.gr_node.specs.Lasting.{log_read}
 use Rattle.gr_node.specs.Plan.{Act, act, plan}
 use Rattle.gr_node.specs.Served.{Course, world_before, is_offer_to}
 
@@ -95,6 +96,10 @@ pub record IsOfClient (t : TopologyView) (c : Course) (p : ℕ) (es : List Event
 -- a pair of images holds a log that has every number below this one
 abbrev pub HasNumbers : List ℕ → ℕ → List ℕ → List ℕ → Type 0
 HasNumbers late n a b = (s : LogState) × (state_in late a b ≡ Ok s) × (n ≤ suc s.last)
+
+-- a pair of images holds a log of the first events of the list
+abbrev pub HoldsFirstOf : List ℕ → List Event → List ℕ → List ℕ → Type 0
+HoldsFirstOf late es a b = (s : LogState) × (state_in late a b ≡ Ok s) × IsFirstOf es (log_read s)
 
 -- the entry offers to the publisher's client that the number n comes next
 abbrev pub offers_next : ℕ → ℕ → Entry → Bool

@@ -25,8 +25,9 @@ ghost use Rattle.gr_node.specs.Plan.{Act, ours, act, plan, all_entries, reply_to
 ghost use Rattle.gr_node.specs.Lasting.{Along, Lasts};
 ghost use Rattle.gr_node.specs.Obeyed.{AloneObeysRules};
 ghost use Rattle.gr_node.specs.Served.{Course, world_before, acts_upto, world_upto, planned, IsHonestJournal};
+ghost use Rattle.gr_node.specs.Served.{IsReachedFrom};
 ghost use Rattle.gr_node.specs.Submitted.{IsFirstOf, Logs, log_found, after_acts, AreFirst, IsOfClient};
-ghost use Rattle.gr_node.specs.Submitted.{offers_next, HasNumbers};
+ghost use Rattle.gr_node.specs.Submitted.{HoldsFirstOf, offers_next, HasNumbers};
 
 use gr_model::topologies::every_topology_is_a_tree;
 use gr_model_theorems::theorems::{
@@ -92,9 +93,11 @@ pub fn an_honest_journal_meets_the_headline(topo: &Topology)
 /// Each event that is logged takes the number behind the last, from the last that was found on, and has its line; what
 /// is cut the log forgets. Where the publisher has a client, and the notes that come are those of a client over a list
 /// of events, the event that is logged with a number is the one of this number in the list; and the log holds the first
-/// events of the list, where it did so when it was found. Where the journal has offered the client that a number comes
-/// next, the log has all numbers below it from then on. And a client is answered that its publisher is spent exactly
-/// where no tick was left for the event that it submitted.
+/// events of the list, where it did so when it was found. So then does whatever a crash may leave of its lanes at any
+/// moment of the run that the plan has reached, as it has reached all that is left there but what was found (`along` and
+/// `since` of `KeepsLogs`). Where the journal has offered the client that a number comes next, the log has all numbers
+/// below it from then on. And a client is answered that its publisher is spent exactly where no tick was left for the
+/// event that it submitted.
 pub fn what_is_logged_was_submitted(topo: &Topology)
     ensures numbers { (hosted : List ℕ) (steps : List Line) (c : Course) (done : List Act) (p : ℕ)
         → AreFirst topo.now hosted steps c done → p < length topo.now.publishers
@@ -109,6 +112,9 @@ pub fn what_is_logged_was_submitted(topo: &Topology)
         → AreFirst topo.now hosted steps c done → IsOfClient topo.now c p es
         → IsFirstOf es (log_found c p)
         → let s : Transition = after_acts topo.now hosted c done in IsFirstOf es (log_of s.world p) }
+    ensures images { (hosted : List ℕ) (steps : List Line) (c : Course) (done : List Act) (p : ℕ) (es : List Event)
+        (a b : List ℕ) → IsOfClient topo.now c p es → IsFirstOf es (log_found c p)
+        → IsReachedFrom topo.now hosted steps c done p a b → HoldsFirstOf topo.now.late es a b }
     ensures answered { (hosted : List ℕ) (steps : List Line) (c : Course) (done : List Act) (p n : ℕ)
         → AreFirst topo.now hosted steps c done → p < length topo.now.publishers → n < 2 ^ 64
         → list_any (offers_next p n) (all_entries topo.now hosted (world_before topo.now c) done) ≡ true
