@@ -1,6 +1,6 @@
 //! The lists of all subscribers that get one.
 
-ghost use Rattle.std.specs.Prelude.{◌≡◌, ◌^◌, ℕ, ◌<◌, ◌≤◌, ◌++◌, ◌∷◌, if◌then◌else◌, List, [], map, length, IfOk, OnOk};
+ghost use Rattle.std.specs.Prelude.{◌≡◌, ◌^◌, ℕ, ◌<◌, ◌≤◌, nat_eq, ◌++◌, ◌∷◌, if◌then◌else◌, List, [], map, length, IfOk, OnOk};
 ghost use Rattle.gr_topo.specs.Topology.{total_of, totals_of};
 ghost use Rattle.gr_model.specs.Orders.{orders_of, heard, fed, ordered, without_ordered, said_of, fresh_order};
 ghost use Rattle.gr_order_lists.specs.Places.{ArePlaced, subject};
@@ -161,6 +161,13 @@ impl Orders {
             lists,
             places,
         })
+    }
+
+    /// Whether no subscriber gets one.
+    pub fn is_empty(&self) -> bool
+        ensures { result ≡ nat_eq (length self.now) 0 }
+    {
+        self.lists.len() == 0
     }
 
     /// Hears lines in order: each list its subscriber's events and horizons. A line takes the logarithm of what waits,

@@ -59,6 +59,9 @@ pub(crate) fn put_step<K: Sink>(
         Ok(()) => {}
         Err(fault) => return Err(fault),
     }
+    if orders.is_empty() {
+        return Ok(());
+    }
     match orders.hear(lines) {
         Ok(()) => {}
         Err(_) => return Err(RunFault::Memory),
