@@ -180,8 +180,3 @@ causes_of faultless ls faults faults' result why by = record {
   why = λ h. elim (why h) [ inl s ↦ inl (or_of (has_stopped ls.first.stop) (has_stopped ls.second.stop) s) | inr r ↦ inr r ];
   by_stop = λ f h. or_of (has_stopped ls.first.stop) (has_stopped ls.second.stop) (by f h);
 }
-
-pub causes_err : {T : Type 0} (faultless : Type 0) (ls : Lanes) (faults faults' : ℕ) (e : LogFault) → (IsErrOf {T = Unit {0}} (Err e) fault.Disk → EitherStopped ls ⊎ Rose faults faults')
-    → (faultless → IsErrOf {T = Unit {0}} (Err e) fault.Disk → EitherStopped ls) → Causes {T = T} faultless (has_stopped ls.first.stop || has_stopped ls.second.stop) faults faults' (Err e)
-causes_err {T} faultless ls faults faults' e why by =
-    causes_of {T = T} faultless ls faults faults' (Err e) (λ h. why (ap (λ (y : LogFault). Err y) (fault_is e fault.Disk h))) (λ f h. by f (ap (λ (y : LogFault). Err y) (fault_is e fault.Disk h)))

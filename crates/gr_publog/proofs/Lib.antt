@@ -29,3 +29,4 @@ pub mod Surveying
 pub mod Settling
 pub mod Starting
 pub mod Choosing
+pub mod Leaving

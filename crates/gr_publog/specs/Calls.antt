@@ -3,7 +3,8 @@ use Rattle.std.specs.Prelude.{◌≡◌, ◌≢◌, ◌⊎◌, ℕ, suc, ◌-◌
 use Rattle.std.specs.Prelude.{◌++◌, Option, Some, None, Result, Ok, Err, IsErr, IsErrOf, IsSome, OnOk}
 use Rattle.gr_out.specs.declared.disk.Stop.TheVariants.{Unset, After}
 use Rattle.gr_out.specs.Faults.{Rose}
-use Rattle.gr_out.specs.Lane.{Call, moment, crash_image, MayLeave, LeftSince}
+use Rattle.gr_out.specs.Lane.{Call, Lane, moment, crash_image, MayLeave, LeftSince}
+use Rattle.gr_out.specs.Stops.{StaysFaultless}
 use Rattle.gr_publog.specs.declared.record.Record.{Record}
 use Rattle.gr_publog.specs.declared.record.Record.TheVariants.{Cut}
 use Rattle.gr_publog.specs.declared.record.LogFault.{LogFault}
@@ -14,7 +15,7 @@ use Rattle.gr_publog.specs.Text.{record_bytes, standing_of}
 use Rattle.gr_publog.specs.Filled.{body_of}
 use Rattle.gr_publog.specs.Crash.{EitherRose, Broke, is_kept, NotFailed}
 use Rattle.gr_publog.specs.Steps.{append_calls, rewriting_calls, GoesOn}
-use Rattle.gr_publog.specs.Views.{LogView, Lanes, appended, reclaimed, present, other, LeftPair, ReadsAs, FoundAs, Stands}
+use Rattle.gr_publog.specs.Views.{LogView, Lanes, appended, reclaimed, present, other, AwayFrom, LeftPair, ReadsAs, FoundAs, Stands}
 
 -- A record that is logged, or none
 
@@ -98,6 +99,20 @@ pub record Causes {T : Type 0} (faultless : Type 0) (stopped : Bool) (faults fau
     (result : Result T LogFault) : Type 0 where
   pub why : IsErrOf result fault.Disk → (stopped ≡ true) ⊎ Rose faults faults'
   pub by_stop : faultless → IsErrOf result fault.Disk → stopped ≡ true
+
+-- What a call leaves of its disk: `lane` is the number of the first of the log's two lanes, and `stopped` says whether
+-- one that the call is to use was stopped.
+pub record LeavesDisk {S T : Type 0} (tells : Type 0) (faultless : S → Type 0) (lane_of : S → ℕ → Lane)
+    (faults stops : S → ℕ) (lane : ℕ) (stopped : Bool) (old new : S) (result : Result T LogFault) : Type 0 where
+  -- its counts move as the answer says, and a faultless disk stays one
+  pub tally : Tally (faults old) (stops old) (faults new) (stops new) result
+  pub faultless_stays : StaysFaultless (faultless old) (faultless new) (faults old) (faults new)
+  -- it failed for a stop of such a lane, or because the count of failures rose
+  pub causes : tells → Causes (faultless old) stopped (faults old) (faults new) result
+  -- where the log has to be opened again, the disk is not called
+  pub idle : IsErrOf result fault.Reopen → new ≡ old
+  -- no lane of another log is touched
+  pub others : tells → (n : ℕ) → AwayFrom lane n → lane_of new n ≡ lane_of old n
 
 -- What a call leaves in memory, by its answer: what it has logged, what there was before, or what is broken and has to
 -- be opened again. It never answers that the lanes are damaged.

@@ -1,6 +1,6 @@
 -- What a crash leaves while a record is appended, and the counts of a disk
 use Rattle.std.specs.Prelude.{◌≡◌, ◌⊎◌, ℕ, ◌+◌, ◌*◌, ◌%◌, ◌≤◌, Bool, true, false, ◌&&◌, ◌||◌, nat_eq, nat_lt, nat_le, if◌then◌else◌, List, []}
-use Rattle.std.specs.Prelude.{◌∷◌, length, Result, Ok, Err, IsErrOf}
+use Rattle.std.specs.Prelude.{◌∷◌, length, Result, Ok, Err}
 use Rattle.gr_out.specs.declared.disk.Stop.TheVariants.{After}
 use Rattle.gr_out.specs.Lane.{Lane, has_stopped, over, Torn}
 use Rattle.gr_out.specs.Faults.{Rose}
@@ -50,10 +50,6 @@ GaveUp (Err fault.Memory) = Unit {0}
 GaveUp (Err fault.Disk) = Unit {0}
 GaveUp (Err (fault.Damaged at)) = ⊥
 GaveUp (Err fault.Reopen) = ⊥
-
--- the disk is told only where one of its two counts rose
-abbrev pub DiskRose : {X : Type 0} → Result X LogFault → ℕ → ℕ → ℕ → ℕ → Type 0
-DiskRose result faults faults' stops stops' = IsErrOf result fault.Disk → EitherRose faults faults' stops stops'
 
 -- an answer other than that the disk failed
 abbrev pub IsNoFailure : LogFault → Type 0

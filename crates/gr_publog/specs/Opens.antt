@@ -1,6 +1,6 @@
 -- What an opening does to two lanes
 use Rattle.std.specs.Prelude.{◌≡◌, ◌⊎◌, ℕ, ◌==◌, nat_le, Bool, true, false, if◌then◌else◌, List, ◌∷◌, length, get_or, Result, Ok, Err, OnOk}
-use Rattle.std.specs.Prelude.{IfOk}
+use Rattle.std.specs.Prelude.{◌||◌, IfOk}
 use Rattle.gr_out.specs.declared.disk.Stop.TheVariants.{Unset}
 use Rattle.gr_out.specs.Lane.{Call, Sync, content, has_stopped, LeavesOnly}
 use Rattle.gr_publog.specs.declared.record.LogFault.{LogFault}
@@ -46,6 +46,10 @@ AreSole ls = LeavesOnly ls.first (content ls.first) × LeavesOnly ls.second (con
 -- one of two lanes was stopped
 abbrev pub EitherStopped : Lanes → Type 0
 EitherStopped ls = (has_stopped ls.first.stop ≡ true) ⊎ (has_stopped ls.second.stop ≡ true)
+
+-- whether it was
+abbrev pub either_stopped : Lanes → Bool
+either_stopped ls = has_stopped ls.first.stop || has_stopped ls.second.stop
 
 -- a log as it is opened, of what its two lanes stand for: as it was found, or in the lane that was filled
 abbrev pub view_of : ℕ → List ℕ → List ℕ → Found → LogView

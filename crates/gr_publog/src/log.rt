@@ -1,10 +1,9 @@
 //! A log in its two lanes.
 
-ghost use Rattle.std.specs.Prelude.{◌≡◌, ◌≢◌, ◌↔◌, ℕ, ◌+◌, ◌^◌, ◌<◌, ◌≤◌, not, true, Some, IfOk, IsErrOf, IsTrue};
-ghost use Rattle.std.specs.Prelude.{◌||◌, false, Ok, Err, OnOk, MatchResult, length};
+ghost use Rattle.std.specs.Prelude.{◌≡◌, ◌≢◌, ◌↔◌, ◌+◌, ◌^◌, ◌<◌, ◌≤◌, not, true, Some, IfOk, IsErrOf, IsTrue};
+ghost use Rattle.std.specs.Prelude.{false, Ok, Err, OnOk, MatchResult, length};
 ghost use Rattle.gr_event.specs.declared.limits.TheConstants.{MAX_JOINS};
 ghost use Rattle.gr_out.specs.Lane.{content, has_stopped};
-ghost use Rattle.gr_out.specs.Stops.{StaysFaultless};
 ghost use Rattle.gr_publog.specs.declared.record.TheConstants.{MAX_TICK};
 ghost use Rattle.gr_publog.specs.State.{held_by, may_follow, IsState};
 ghost use Rattle.gr_publog.specs.Text.{AreBytes, IsStanding, standing_of, placed_in};
@@ -12,9 +11,9 @@ ghost use Rattle.gr_publog.specs.Lanes.{present_of};
 ghost use Rattle.gr_publog.specs.Gives.{Tells, IsNoReopen};
 ghost use Rattle.gr_publog.specs.Crash.{is_disk};
 ghost use Rattle.gr_publog.specs.Views.{LogView, appended, reclaimed, failed, lanes_at, number_of};
-ghost use Rattle.gr_publog.specs.Views.{AwayFrom, IsAside, IsReady};
-ghost use Rattle.gr_publog.specs.Opens.{AreHeads, Opens, aside_of, present_as};
-ghost use Rattle.gr_publog.specs.Calls.{Appends, Reclaims, Tally, Causes, Leaves};
+ghost use Rattle.gr_publog.specs.Views.{IsAside, IsReady};
+ghost use Rattle.gr_publog.specs.Opens.{AreHeads, Opens, aside_of, either_stopped, present_as};
+ghost use Rattle.gr_publog.specs.Calls.{Appends, Reclaims, Leaves, LeavesDisk};
 ghost use Rattle.gr_publog.specs.Uses.{AreSoleOn, ReadsLane, UsesLanes, SettlesOn, IsOpened, IsHeldFor};
 
 use crate::append::{append_at, is_sound};
@@ -350,14 +349,8 @@ impl Log {
         ensures lane { IfOk result (λ l. l.lane ≡ lane) }
         ensures whole { IfOk result (λ l. l.broken ≡ false) }
         ensures never_reopen { result ≢ Err LogFault.Reopen }
-        ensures tally { let f = D.faults disk.old in let s = D.stops disk.old in
-            Tally f s (D.faults disk.new) (D.stops disk.new) result }
-        ensures causes { let f = D.faults disk.old in let f' = D.faults disk.new in
-            let ls = lanes_at (D.lane_of disk.new) lane in D.tells → Causes (D.faultless disk.old)
-            (has_stopped ls.first.stop || has_stopped ls.second.stop) f f' result }
-        ensures faultless { let f = D.faults disk.old in
-            StaysFaultless (D.faultless disk.old) (D.faultless disk.new) f (D.faults disk.new) }
-        ensures others { D.tells → (n : ℕ) → AwayFrom lane n → D.lane_of disk.new n ≡ D.lane_of disk.old n }
+        ensures disk { let stopped = either_stopped (lanes_at (D.lane_of disk.new) lane) in
+            LeavesDisk D.tells D.faultless D.lane_of D.faults D.stops lane stopped disk.old disk.new result }
     {
         match sync_lanes(disk, lane) {
             Ok(()) => {}
@@ -381,16 +374,9 @@ impl Log {
         ensures lanes { let l = self.old in let before = lanes_at (D.lane_of disk.old) l.lane in
             D.tells → Appends l (Some entry.now) before (lanes_at (D.lane_of disk.new) l.lane) result }
         ensures reopen { IsErrOf result LogFault.Reopen ↔ (self.old.broken ≡ true) }
-        ensures idle { IsErrOf result LogFault.Reopen → disk.new ≡ disk.old }
-        ensures tally { let f = D.faults disk.old in let s = D.stops disk.old in
-            Tally f s (D.faults disk.new) (D.stops disk.new) result }
-        ensures causes { let l = self.old in let f = D.faults disk.old in let f' = D.faults disk.new in D.tells →
-            Causes (D.faultless disk.old) (has_stopped (D.lane_of disk.new (number_of l.lane l.second)).stop)
-            f f' result }
-        ensures faultless { let f = D.faults disk.old in
-            StaysFaultless (D.faultless disk.old) (D.faultless disk.new) f (D.faults disk.new) }
-        ensures others { D.tells →
-            (n : ℕ) → AwayFrom self.old.lane n → D.lane_of disk.new n ≡ D.lane_of disk.old n }
+        ensures disk { let l = self.old in
+            let stopped = has_stopped (D.lane_of disk.new (number_of l.lane l.second)).stop in
+            LeavesDisk D.tells D.faultless D.lane_of D.faults D.stops l.lane stopped disk.old disk.new result }
     {
         if self.broken {
             return Err(LogFault::Reopen);
@@ -438,16 +424,9 @@ impl Log {
         ensures lanes { let l = self.old in let before = lanes_at (D.lane_of disk.old) l.lane in
             D.tells → Reclaims l tick before (lanes_at (D.lane_of disk.new) l.lane) result }
         ensures reopen { IsErrOf result LogFault.Reopen ↔ (self.old.broken ≡ true) }
-        ensures idle { IsErrOf result LogFault.Reopen → disk.new ≡ disk.old }
-        ensures tally { let f = D.faults disk.old in let s = D.stops disk.old in
-            Tally f s (D.faults disk.new) (D.stops disk.new) result }
-        ensures causes { let l = self.old in let f = D.faults disk.old in let f' = D.faults disk.new in D.tells →
-            Causes (D.faultless disk.old) (has_stopped (D.lane_of disk.new (number_of l.lane (not l.second))).stop) f f'
-            result }
-        ensures faultless { let f = D.faults disk.old in
-            StaysFaultless (D.faultless disk.old) (D.faultless disk.new) f (D.faults disk.new) }
-        ensures others { D.tells →
-            (n : ℕ) → AwayFrom self.old.lane n → D.lane_of disk.new n ≡ D.lane_of disk.old n }
+        ensures disk { let l = self.old in
+            let stopped = has_stopped (D.lane_of disk.new (number_of l.lane (not l.second))).stop in
+            LeavesDisk D.tells D.faultless D.lane_of D.faults D.stops l.lane stopped disk.old disk.new result }
     {
         if self.broken {
             return Err(LogFault::Reopen);

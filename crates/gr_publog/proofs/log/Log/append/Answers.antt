@@ -7,6 +7,7 @@ use Rattle.gr_publog.specs.Views.{LogView}
 use Rattle.gr_publog.proofs.Kept.{kept, entries_rise}
 use Rattle.gr_publog.proofs.Calling.{appends_refused}
 use Rattle.gr_publog.proofs.Numbered.{appends_at, gate_within, stands_present, extends_ok_as, extends_err_as, leaves_fault, leaves_ok}
+use Rattle.gr_publog.proofs.Leaving.{changed, change_failed}
 use Rattle.gr_publog.proofs.log.Log.append.Goals as goal
 
 pub returns-in-Err-clause-lanes : goal.returns-in-Err-clause-lanes
@@ -53,6 +54,14 @@ returns-clause-log g c = rw (← c.self.view_is)
     let size : c.in-Ok-append_at.size ≡ c.self.inside.size + 1 + record_size r = omega (arith, c.in-Ok-append_at.ensures.size, c.self.invariant.4) in
     leaves_ok _ _ _ _ _
     (ap₂ (λ (s : LogState) (n : ℕ). let v : LogView = record { lane = c.self.inside.lane; state = s; broken = c.self.inside.broken; second = c.self.inside.second; generation = c.self.inside.generation; size = n; aside = c.self.inside.aside } in v) state size))
+
+pub returns-in-Err-append_at-clause-disk : goal.returns-in-Err-append_at-clause-disk
+returns-in-Err-append_at-clause-disk g c = rw (← c.self.view_is)
+    (change_failed {T = ℕ} c.number_of-lane.result c.self.inside.second c.in-Err-append_at.fault c.number_of-lane.ensures c.in-Err-append_at.ensures.gave_up c.in-Err-append_at.ensures.uses)
+
+pub returns-clause-disk : goal.returns-clause-disk
+returns-clause-disk g c = rw (← c.self.view_is)
+    (changed {T = ℕ} c.number_of-lane.result c.self.inside.second c.in-Ok-append_at.size tt c.number_of-lane.ensures c.in-Ok-append_at.ensures.uses)
 
 pub note_record-requires-clause-rise : goal.note_record-requires-clause-rise
 note_record-requires-clause-rise g c = subst (EntriesRise 0) (sym (c.reserve.ensures.items ∙ c.events.view_is)) (entries_rise _ c.self.invariant.0)

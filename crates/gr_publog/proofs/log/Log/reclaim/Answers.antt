@@ -10,7 +10,8 @@ use Rattle.gr_publog.specs.Filled.{body_of, filled_size}
 use Rattle.gr_publog.specs.Steps.{Refills}
 use Rattle.gr_publog.specs.Views.{LogView}
 use Rattle.gr_publog.proofs.Kept.{kept, entries_rise}
-use Rattle.gr_publog.proofs.Numbered.{reclaims_at, stands_other, other_stands_as, away, leaves_ok, may_cut_is, refills_ok_as}
+use Rattle.gr_publog.proofs.Numbered.{reclaims_at, stands_other, other_stands_as, leaves_ok, may_cut_is, refills_ok_as}
+use Rattle.gr_publog.proofs.Leaving.{changed, change_failed}
 use Rattle.gr_publog.proofs.log.Log.reclaim.Goals as goal
 
 pub first_past-from-requires : goal.first_past-from-requires
@@ -92,9 +93,13 @@ returns-clause-log g c = rw (← c.self.view_is)
     (ap₂ (λ (s : LogState) (n : ℕ). let v : LogView = record { lane = c.self.inside.lane; state = s; broken = c.self.inside.broken; second = not c.self.inside.second; generation = c.self.inside.generation + 1; size = n; aside = Opened } in v) state size
     ∙ ap (λ (k : ℕ). let v : LogView = record { lane = c.self.inside.lane; state = after_record held (Cut c.args.tick); broken = c.self.inside.broken; second = not c.self.inside.second; generation = k; size = filled_size (after_record held (Cut c.args.tick)); aside = Opened } in v) next_is))
 
-pub returns-clause-others : goal.returns-clause-others
-returns-clause-others g c = rw (← c.self.view_is)
-    (λ t n a. c.refill.ensures.uses.others t n (away c.self.inside.lane n c.number_of-lane.result (not c.self.inside.second) c.number_of-lane.ensures a))
+pub returns-in-Err-clause-disk : goal.returns-in-Err-clause-disk
+returns-in-Err-clause-disk g c = rw (← c.self.view_is)
+    (change_failed {T = ℕ} c.number_of-lane.result (not c.self.inside.second) c.in-Err.fault c.number_of-lane.ensures c.in-Err.ensures.gave_up c.in-Err.ensures.uses)
+
+pub returns-clause-disk : goal.returns-clause-disk
+returns-clause-disk g c = rw (← c.self.view_is)
+    (changed {T = ℕ} c.number_of-lane.result (not c.self.inside.second) c.in-Ok.size (c.self.inside.generation + 1) c.number_of-lane.ensures c.in-Ok.ensures.uses)
 
 pub invariant_of-self-2 : goal.invariant_of-self-2
 invariant_of-self-2 g c =
