@@ -1,5 +1,5 @@
 -- What a call on a log does: to its two lanes, to the counts of its disk, and to what is kept in memory
-use Rattle.std.specs.Prelude.{◌≡◌, ◌≢◌, ◌⊎◌, ℕ, suc, ◌-◌, ◌≤◌, Bool, true, false, not, if◌then◌else◌, List, ◌∷◌, []}
+use Rattle.std.specs.Prelude.{◌≡◌, ◌≢◌, ◌⊎◌, ◌↔◌, ℕ, suc, ◌-◌, ◌≤◌, Bool, true, false, not, if◌then◌else◌, List, ◌∷◌, []}
 use Rattle.std.specs.Prelude.{◌++◌, Option, Some, None, Result, Ok, Err, IsErr, IsErrOf, IsSome, OnOk}
 use Rattle.gr_out.specs.declared.disk.Stop.TheVariants.{Unset, After}
 use Rattle.gr_out.specs.Faults.{Rose}
@@ -113,6 +113,10 @@ pub record LeavesDisk {S T : Type 0} (tells : Type 0) (faultless : S → Type 0)
   pub idle : IsErrOf result fault.Reopen → new ≡ old
   -- no lane of another log is touched
   pub others : tells → (n : ℕ) → AwayFrom lane n → lane_of new n ≡ lane_of old n
+
+-- the log has to be opened again exactly where it was broken
+abbrev pub ReopensBroken : {T : Type 0} → LogView → Result T LogFault → Type 0
+ReopensBroken l result = IsErrOf result fault.Reopen ↔ (l.broken ≡ true)
 
 -- What a call leaves in memory, by its answer: what it has logged, what there was before, or what is broken and has to
 -- be opened again. It never answers that the lanes are damaged.

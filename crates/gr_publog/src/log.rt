@@ -1,6 +1,6 @@
 //! A log in its two lanes.
 
-ghost use Rattle.std.specs.Prelude.{◌≡◌, ◌≢◌, ◌↔◌, ◌+◌, ◌^◌, ◌<◌, ◌≤◌, not, true, Some, IfOk, IsErrOf, IsTrue};
+ghost use Rattle.std.specs.Prelude.{◌≡◌, ◌≢◌, ◌↔◌, ◌+◌, ◌^◌, ◌<◌, ◌≤◌, not, true, Some, IfOk, IsTrue};
 ghost use Rattle.std.specs.Prelude.{false, Ok, Err, OnOk, MatchResult, length};
 ghost use Rattle.gr_event.specs.declared.limits.TheConstants.{MAX_JOINS};
 ghost use Rattle.gr_out.specs.Lane.{content, has_stopped};
@@ -13,7 +13,7 @@ ghost use Rattle.gr_publog.specs.Crash.{is_disk};
 ghost use Rattle.gr_publog.specs.Views.{LogView, appended, reclaimed, failed, lanes_at, number_of};
 ghost use Rattle.gr_publog.specs.Views.{IsAside, IsReady};
 ghost use Rattle.gr_publog.specs.Opens.{AreHeads, Opens, aside_of, either_stopped, present_as};
-ghost use Rattle.gr_publog.specs.Calls.{Appends, Reclaims, Leaves, LeavesDisk};
+ghost use Rattle.gr_publog.specs.Calls.{Appends, Reclaims, ReopensBroken, Leaves, LeavesDisk};
 ghost use Rattle.gr_publog.specs.Uses.{AreSoleOn, ReadsLane, UsesLanes, SettlesOn, IsOpened, IsHeldFor};
 
 use crate::append::{append_at, is_sound};
@@ -373,7 +373,7 @@ impl Log {
         ensures log { Leaves self.old (appended entry.now self.old) (failed self.old) self.new result }
         ensures lanes { let l = self.old in let before = lanes_at (D.lane_of disk.old) l.lane in
             D.tells → Appends l (Some entry.now) before (lanes_at (D.lane_of disk.new) l.lane) result }
-        ensures reopen { IsErrOf result LogFault.Reopen ↔ (self.old.broken ≡ true) }
+        ensures reopen { ReopensBroken self.old result }
         ensures disk { let l = self.old in
             let stopped = has_stopped (D.lane_of disk.new (number_of l.lane l.second)).stop in
             LeavesDisk D.tells D.faultless D.lane_of D.faults D.stops l.lane stopped disk.old disk.new result }
@@ -423,7 +423,7 @@ impl Log {
         ensures log { Leaves self.old (reclaimed tick self.old) (failed self.old) self.new result }
         ensures lanes { let l = self.old in let before = lanes_at (D.lane_of disk.old) l.lane in
             D.tells → Reclaims l tick before (lanes_at (D.lane_of disk.new) l.lane) result }
-        ensures reopen { IsErrOf result LogFault.Reopen ↔ (self.old.broken ≡ true) }
+        ensures reopen { ReopensBroken self.old result }
         ensures disk { let l = self.old in
             let stopped = has_stopped (D.lane_of disk.new (number_of l.lane (not l.second))).stop in
             LeavesDisk D.tells D.faultless D.lane_of D.faults D.stops l.lane stopped disk.old disk.new result }
