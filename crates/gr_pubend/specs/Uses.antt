@@ -1,11 +1,9 @@
 -- What the calls of an endpoint want of its disk and leave of it, whatever they log and whatever comes of them
-use Rattle.std.specs.Prelude.{◌≡◌, ℕ, Result, IsErrOf, OnOk}
+use Rattle.std.specs.Prelude.{◌≡◌, ℕ, Result, OnOk}
 use Rattle.gr_out.specs.Lane.{Lane, has_stopped}
-use Rattle.gr_out.specs.Stops.{StaysFaultless}
 use Rattle.gr_publog.specs.declared.record.LogFault.{LogFault}
-use Rattle.gr_publog.specs.declared.record.LogFault.TheVariants as fault
-use Rattle.gr_publog.specs.Views.{LogView, lanes_at, AwayFrom, IsReady}
-use Rattle.gr_publog.specs.Calls.{Tally, Causes}
+use Rattle.gr_publog.specs.Views.{LogView, lanes_at, IsReady}
+use Rattle.gr_publog.specs.Calls.{LeavesDisk}
 use Rattle.gr_pubend.specs.End.{EndView}
 
 -- On a disk that tells what it holds, a log that is not broken stands in its lanes
@@ -17,12 +15,6 @@ pub record UsesEnd {S T : Type 0} (tells : Type 0) (faultless : S → Type 0) (l
     (faults stops : S → ℕ) (lane : ℕ) (before after : EndView) (old new : S) (result : Result T LogFault) : Type 0 where
   -- where the answer is not a fault, the log stays in its lanes, and is broken if it was
   pub goes_on : OnOk result ((after.log.lane ≡ before.log.lane) × (after.log.broken ≡ before.log.broken))
-  -- an endpoint that has to be opened again does not call the disk
-  pub idle : IsErrOf result fault.Reopen → new ≡ old
-  -- the disk's counts move as the answer says, and a faultless disk stays one
-  pub tally : Tally (faults old) (stops old) (faults new) (stops new) result
-  pub faultless_stays : StaysFaultless (faultless old) (faultless new) (faults old) (faults new)
-  -- it failed for a stop of that lane, or because the count of failures rose
-  pub causes : tells → Causes (faultless old) (has_stopped (lane_of new lane).stop) (faults old) (faults new) result
-  -- no lane of another log is touched
-  pub others : tells → (n : ℕ) → AwayFrom before.log.lane n → lane_of new n ≡ lane_of old n
+  -- the disk is left as by every call on a log
+  pub disk : LeavesDisk tells faultless lane_of faults stops before.log.lane (has_stopped (lane_of new lane).stop) old
+      new result

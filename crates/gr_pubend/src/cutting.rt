@@ -1,11 +1,9 @@
 //! Cuts of a log.
 
-ghost use Rattle.std.specs.Prelude.{◌≡◌, ◌↔◌, ℕ, ◌≤◌, ◌<◌, true, Some, IfOk, IsErrOf};
+ghost use Rattle.std.specs.Prelude.{◌≡◌, ◌≤◌, ◌<◌, Some, IfOk};
 ghost use Rattle.gr_out.specs.Lane.{has_stopped};
-ghost use Rattle.gr_out.specs.Stops.{StaysFaultless};
-ghost use Rattle.gr_publog.specs.Views.{failed, lanes_at, AwayFrom, IsReady};
-ghost use Rattle.gr_publog.specs.Calls.{Tally, Causes, Leaves};
-ghost use Rattle.gr_publog.specs.declared.record.LogFault.TheVariants.{Reopen as MustReopen};
+ghost use Rattle.gr_publog.specs.Views.{failed, lanes_at, IsReady};
+ghost use Rattle.gr_publog.specs.Calls.{ReopensBroken, Leaves, LeavesDisk};
 ghost use Rattle.gr_pubend.specs.Cuts.{Cuts, cut_view, cutting_of, cut_lane};
 
 use gr_out::Disk;
@@ -53,16 +51,9 @@ pub fn cut_log<D: Disk>(
     ensures log { Leaves log.old (cut_view reclaim tick log.old) (failed log.old) log.new result }
     ensures lanes { let l = log.old in let before = lanes_at (D.lane_of disk.old) l.lane in
         D.tells → Cuts l (Some tick) reclaim before (lanes_at (D.lane_of disk.new) l.lane) result }
-    ensures reopen { IsErrOf result LogFault.Reopen ↔ (log.old.broken ≡ true) }
-    ensures idle { IsErrOf result LogFault.Reopen → disk.new ≡ disk.old }
-    ensures tally { let f = D.faults disk.old in let s = D.stops disk.old in
-        Tally f s (D.faults disk.new) (D.stops disk.new) result }
-    ensures causes { let f = D.faults disk.old in let f' = D.faults disk.new in
-        let lane = D.lane_of disk.new (cut_lane log.old reclaim) in
-        D.tells → Causes (D.faultless disk.old) (has_stopped lane.stop) f f' result }
-    ensures faultless { let f = D.faults disk.old in
-        StaysFaultless (D.faultless disk.old) (D.faultless disk.new) f (D.faults disk.new) }
-    ensures others { D.tells → (n : ℕ) → AwayFrom log.old.lane n → D.lane_of disk.new n ≡ D.lane_of disk.old n }
+    ensures reopen { ReopensBroken log.old result }
+    ensures disk { let l = log.old in let stopped = has_stopped (D.lane_of disk.new (cut_lane l reclaim)).stop in
+        LeavesDisk D.tells D.faultless D.lane_of D.faults D.stops l.lane stopped disk.old disk.new result }
 {
     match plan_cut(log, reclaim) {
         Cutting::Recorded => match log.append(disk, &Record::Cut { tick }) {

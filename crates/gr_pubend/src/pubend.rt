@@ -1,17 +1,15 @@
 //! A log, and what is known by it.
 
-ghost use Rattle.std.specs.Prelude.{◌≡◌, ◌≢◌, ◌↔◌, ℕ, ◌+◌, ◌^◌, ◌≤◌, ◌<◌, ◌||◌, true, false, Some, None, Err, IsErr};
+ghost use Rattle.std.specs.Prelude.{◌≡◌, ◌≢◌, ◌↔◌, ◌+◌, ◌^◌, ◌≤◌, ◌<◌, true, false, Some, None, Err, IsErr};
 ghost use Rattle.std.specs.Prelude.{IsSome, IfOk, IsErrOf, nat_eq, length};
 ghost use Rattle.std.specs.List.{list_any};
 ghost use Rattle.gr_event.specs.declared.limits.TheConstants.{MAX_JOINS};
-ghost use Rattle.gr_out.specs.Lane.{has_stopped};
-ghost use Rattle.gr_out.specs.Stops.{StaysFaultless};
 ghost use Rattle.gr_tick.specs.declared.TheConstants.{MAX_TICK};
 ghost use Rattle.gr_tick.specs.Stored.{RunsGive};
 ghost use Rattle.gr_know.specs.declared.values.K.TheVariants.{Q};
-ghost use Rattle.gr_publog.specs.Views.{lanes_at, AwayFrom};
-ghost use Rattle.gr_publog.specs.Opens.{Opens};
-ghost use Rattle.gr_publog.specs.Calls.{Appends, Tally, Causes, Leaves};
+ghost use Rattle.gr_publog.specs.Views.{lanes_at};
+ghost use Rattle.gr_publog.specs.Opens.{Opens, either_stopped};
+ghost use Rattle.gr_publog.specs.Calls.{Appends, ReopensBroken, Leaves, LeavesDisk};
 ghost use Rattle.gr_publog.specs.declared.record.LogFault.TheVariants.{Memory as WantOfMemory, Disk as DiskFailed};
 ghost use Rattle.gr_publog.specs.declared.record.LogFault.TheVariants.{Reopen as MustReopen};
 ghost use Rattle.gr_pubend.specs.Log.{said, log_at, log_know};
@@ -74,14 +72,8 @@ impl Pubend {
         ensures whole { IfOk result (λ p. p.log.broken ≡ false) }
         ensures known { IfOk result (λ p. p.know ≡ log_know (said p.log)) }
         ensures never_reopen { result ≢ Err LogFault.Reopen }
-        ensures tally { let f = D.faults disk.old in let s = D.stops disk.old in
-            Tally f s (D.faults disk.new) (D.stops disk.new) result }
-        ensures causes { let f = D.faults disk.old in let f' = D.faults disk.new in
-            let ls = lanes_at (D.lane_of disk.new) lane in D.tells → Causes (D.faultless disk.old)
-            (has_stopped ls.first.stop || has_stopped ls.second.stop) f f' result }
-        ensures faultless { let f = D.faults disk.old in
-            StaysFaultless (D.faultless disk.old) (D.faultless disk.new) f (D.faults disk.new) }
-        ensures others { D.tells → (n : ℕ) → AwayFrom lane n → D.lane_of disk.new n ≡ D.lane_of disk.old n }
+        ensures disk { let stopped = either_stopped (lanes_at (D.lane_of disk.new) lane) in
+            LeavesDisk D.tells D.faultless D.lane_of D.faults D.stops lane stopped disk.old disk.new result }
     {
         let log = match Log::open(alloc, disk, lane, late) {
             Ok(log) => log,
@@ -299,7 +291,7 @@ impl Pubend {
         ensures lanes { let l = self.old.log in let before = lanes_at (D.lane_of disk.old) l.lane in
             let logged = Some (Record.Event tick number event.now) in
             D.tells → Appends l logged before (lanes_at (D.lane_of disk.new) l.lane) result }
-        ensures reopen { IsErrOf result LogFault.Reopen ↔ (self.old.log.broken ≡ true) }
+        ensures reopen { ReopensBroken self.old.log result }
         ensures uses { let lane = present_lane self.old.log in
             UsesEnd D.tells D.faultless D.lane_of D.faults D.stops lane self.old self.new disk.old disk.new result }
     {
@@ -324,7 +316,7 @@ impl Pubend {
         ensures end { Leaves self.old (grown (Record.Mark tick) self.old) (broken_end self.old) self.new result }
         ensures lanes { let l = self.old.log in let before = lanes_at (D.lane_of disk.old) l.lane in
             D.tells → Appends l (Some (Record.Mark tick)) before (lanes_at (D.lane_of disk.new) l.lane) result }
-        ensures reopen { IsErrOf result LogFault.Reopen ↔ (self.old.log.broken ≡ true) }
+        ensures reopen { ReopensBroken self.old.log result }
         ensures uses { let lane = present_lane self.old.log in
             UsesEnd D.tells D.faultless D.lane_of D.faults D.stops lane self.old self.new disk.old disk.new result }
     {
@@ -345,7 +337,7 @@ impl Pubend {
         ensures end { Leaves self.old (grown (Record.Join tick s) self.old) (broken_end self.old) self.new result }
         ensures lanes { let l = self.old.log in let before = lanes_at (D.lane_of disk.old) l.lane in
             D.tells → Appends l (Some (Record.Join tick s)) before (lanes_at (D.lane_of disk.new) l.lane) result }
-        ensures reopen { IsErrOf result LogFault.Reopen ↔ (self.old.log.broken ≡ true) }
+        ensures reopen { ReopensBroken self.old.log result }
         ensures uses { let lane = present_lane self.old.log in
             UsesEnd D.tells D.faultless D.lane_of D.faults D.stops lane self.old self.new disk.old disk.new result }
     {
@@ -371,7 +363,7 @@ impl Pubend {
         ensures end { Leaves self.old (cut_end reclaim tick self.old) (broken_end self.old) self.new result }
         ensures lanes { let l = self.old.log in let before = lanes_at (D.lane_of disk.old) l.lane in
             D.tells → Cuts l (Some tick) reclaim before (lanes_at (D.lane_of disk.new) l.lane) result }
-        ensures reopen { IsErrOf result LogFault.Reopen ↔ (self.old.log.broken ≡ true) }
+        ensures reopen { ReopensBroken self.old.log result }
         ensures uses { let lane = cut_lane self.old.log reclaim in
             UsesEnd D.tells D.faultless D.lane_of D.faults D.stops lane self.old self.new disk.old disk.new result }
     {
@@ -423,7 +415,7 @@ impl Pubend {
         ensures end { Leaves self.old (grown entry.now self.old) (broken_end self.old) self.new result }
         ensures lanes { let l = self.old.log in let before = lanes_at (D.lane_of disk.old) l.lane in
             D.tells → Appends l (Some entry.now) before (lanes_at (D.lane_of disk.new) l.lane) result }
-        ensures reopen { IsErrOf result LogFault.Reopen ↔ (self.old.log.broken ≡ true) }
+        ensures reopen { ReopensBroken self.old.log result }
         ensures uses { let lane = present_lane self.old.log in
             UsesEnd D.tells D.faultless D.lane_of D.faults D.stops lane self.old self.new disk.old disk.new result }
     {
