@@ -1,26 +1,17 @@
 -- Where a text is cut into pieces and into words, and the walk of `split` from piece to piece
 use Rattle.std.proofs.Common.{◌≡◌, ℕ, ◌+◌, ◌-◌, ◌<◌, ◌≤◌, List, [], ◌∷◌, ◌++◌, length, take, drop, map, arith, refl, ap, sym, ◌∙◌, suc, Bool, true, false, cond, append_assoc}
-use Rattle.std.specs.Prelude.{◌==◌, not, Option}
+use Rattle.std.specs.Prelude.{not, Option}
 use Rattle.std.specs.List.{position_or_len, position}
 use Rattle.std.specs.Option.{unwrap_or}
 use Rattle.std.proofs.Math.Seq.{take-add}
 use Rattle.std.proofs.lemmas.List.{take_rest, drop-drop}
 use Rattle.gr_sched.specs.Text.{pieces_of, longer, joined, line_of}
-use Rattle.gr_sched.proofs.Pieces.{place_is as any_place_is, place_within as any_place_within, piece_cut as any_piece_cut, piece_whole as any_piece_whole, joined_pieces}
+use Rattle.gr_sched.proofs.Pieces.{place_is as any_place_is, place_within as any_place_within, joined_pieces}
 use Rattle.gr_journal.specs.Parts.{is_bar, before_bar, behind_bar, lines_of}
 use Rattle.gr_journal.specs.Words.{is_space, words_of}
 
 pub place_is : (p : ℕ → Bool) (xs : List ℕ) (r : Option ℕ) → r ≡ position p xs → unwrap_or r (length xs) ≡ position_or_len p xs
 place_is p xs r e = any_place_is p xs r e
-
-pub place_within : (p : ℕ → Bool) (xs : List ℕ) → position_or_len p xs ≤ length xs
-place_within p xs = any_place_within p xs
-
-pub piece_cut : (text : List ℕ) (n m : ℕ) → n ≡ position_or_len (λ b. b == 10) text → n < length text → m ≡ n + 1 → pieces_of text ≡ take m text ∷ pieces_of (drop m text)
-piece_cut text n m e h k = any_piece_cut text n m e h k
-
-pub piece_whole : (text : List ℕ) (n : ℕ) → 0 < length text → n ≡ position_or_len (λ b. b == 10) text → length text ≤ n → pieces_of text ≡ take n text ∷ pieces_of (drop n text)
-piece_whole text n some e h = any_piece_whole text n some e h
 
 -- ---- the walk of `split`
 

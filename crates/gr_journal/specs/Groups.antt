@@ -1,5 +1,5 @@
 -- The lines of a journal behind its first: what came, and what a process told and offered then
-use Rattle.std.specs.Prelude.{ℕ, Bool, true, nat_eq, if◌then◌else◌, List, [], ◌∷◌, ◌++◌, codes}
+use Rattle.std.specs.Prelude.{ℕ, Bool, nat_eq, if◌then◌else◌, List, [], ◌∷◌, ◌++◌, codes}
 use Rattle.std.specs.List.{flat_map}
 use Rattle.gr_topo.specs.Topology.{TopologyView, name_at}
 use Rattle.gr_journal.specs.declared.arrival.Arrival.{Arrival}

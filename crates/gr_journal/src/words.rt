@@ -3,12 +3,11 @@
 ghost use Rattle.std.specs.Prelude.{◌≡◌, ◌+◌, ◌<◌, ◌≤◌, ◌∷◌, length, if◌then◌else◌, Some, None, option_map};
 ghost use Rattle.std.specs.Prelude.{IfOk, IfSome};
 ghost use Rattle.std.specs.List.{list_all, position, position_or_len};
-ghost use Rattle.gr_sched.specs.Words.{is_number, value_after};
 ghost use Rattle.gr_journal.specs.Words.{is_space, words_of, more_words, only_word, moment_of, is_hex_digit, is_hex};
 ghost use Rattle.gr_journal.specs.Words.{digit_value, hex_bytes, datagram_of};
 
 use gr_event::Bytes;
-use gr_sched::MAX_NUMBER;
+use gr_sched::{MAX_NUMBER, value};
 use std::alloc::{AllocError, Global};
 
 /// Where the first space stands, if any.
@@ -50,23 +49,6 @@ pub(crate) fn only_word(text: Option<&[u8]>) -> Option<&[u8]>
         None => Some(word),
         Some(_) => None,
     }
-}
-
-/// The value of a word of 1 to 19 digits, or None where it is no such word.
-fn value(word: &[u8]) -> Option<u64>
-    ensures { result ≡ if is_number word.now then Some (value_after 0 word.now) else None }
-{
-    if word.is_empty() || word.len() > 19 {
-        return None;
-    }
-    let mut value = 0u64;
-    'digits: for byte in word {
-        if !byte.is_ascii_digit() {
-            return None;
-        }
-        value = value * 10 + u64::from(*byte - b'0');
-    }
-    Some(value)
 }
 
 /// The moment that a word is; one past the greatest stands as the greatest.
