@@ -13,7 +13,7 @@ ghost use Rattle.gr_know.specs.declared.values.K.TheVariants.{Q, F};
 
 use crate::events::{finish_counted, join_counted};
 use crate::forgetting::{first_data, first_data_of, forget_data};
-use crate::news::{find_clash, fresh_piece, horizon_with, joined_piece};
+use crate::news::{find_clash, fresh_piece, horizon_with};
 use crate::values::K;
 use gr_tick::{Piece, Run, Steady, Stream};
 use std::alloc::{AllocError, Global};
@@ -177,7 +177,14 @@ impl Know {
         ensures { IfOk result (λ joined. RunsGive Q joined
             (λ t. if within first last t then join_K (known_at self.now.runs t) (known_at piece.now t) else Q)) }
     {
-        joined_piece(self.alloc, &self.stream, piece, first, last)
+        let known = self.stream.piece(first, last)?;
+        if known.is_empty() {
+            return piece.cut(first, last);
+        }
+        let mut joined = Stream::new(self.alloc);
+        joined.join_piece(&known)?;
+        joined.join_piece(piece)?;
+        joined.piece(first, last)
     }
 
     /// The least tick at which the piece clashes with what is known, if there is one. It takes no memory.

@@ -70,30 +70,6 @@ fn came_until(piece: &Piece<K>, tick: u64) -> u64
     run.last
 }
 
-/// What is known of a range once a piece is joined.
-pub(crate) fn joined_piece(
-    alloc: Global,
-    stream: &Stream<K>,
-    piece: &Piece<K>,
-    first: u64,
-    last: u64,
-) -> Result<Piece<K>, AllocError>
-    requires from_one { 1 ≤ first }
-    requires ordered { first ≤ last }
-    requires upto { last ≤ MAX_TICK }
-    ensures { IfOk result (λ joined. RunsGive Q joined
-        (λ t. if within first last t then join_K (known_at stream.now.runs t) (known_at piece.now t) else Q)) }
-{
-    let known = stream.piece(first, last)?;
-    if known.is_empty() {
-        return piece.cut(first, last);
-    }
-    let mut joined = Stream::new(alloc);
-    joined.join_piece(&known)?;
-    joined.join_piece(piece)?;
-    joined.piece(first, last)
-}
-
 /// Puts a run's value at the end, on the ticks of the run where nothing is known.
 fn put_news(fresh: &mut Piece<K>, stream: &Stream<K>, run: &Run<K>) -> Result<(), AllocError>
     requires alone { IsRun Q run.now }
