@@ -4,7 +4,6 @@ ghost use Rattle.std.specs.Prelude.{◌≡◌, ◌<◌, ◌≤◌, ◌++◌, [],
 ghost use Rattle.std.specs.Fmt.{decimal};
 ghost use Rattle.std.specs.List.{flat_map};
 ghost use Rattle.gr_topo.specs.Topology.{name_at};
-ghost use Rattle.gr_event.specs.Json.{json_text};
 ghost use Rattle.gr_model.specs.Text.{labels_of, know_letter, want_letter, run_word, frame_fault_word, note_fault_word};
 ghost use Rattle.gr_model.specs.Text.{hex_pair, log_words, sent_words, joins_words, behind_blanks, row_of};
 ghost use Rattle.gr_model.specs.Text.{AreNamed, IsSentNamed, IsNamed};
@@ -13,7 +12,7 @@ ghost use Rattle.gr_report_text.specs.Families.{IsOfRefusal, IsOfShow};
 
 use crate::words::{push_event, push_hex, push_name, push_number, push_word};
 use gr_curio::Q3;
-use gr_event::{Bytes, Event, Join, Joins, Text};
+use gr_event::{Bytes, Join, Joins, Text};
 use gr_frame::FrameKind;
 use gr_know::K;
 use gr_model::Report;
@@ -160,29 +159,6 @@ fn push_gap(
     push_publisher(words, topo, publisher)?;
     push_number(words, number)?;
     push_pair(words, b"next", next)
-}
-
-/// The line of an event that is handed to a subscriber. The first word comes with the blank before it.
-#[inline(always)]
-fn push_handed(
-    words: &mut Text,
-    topo: &Topology,
-    first: &[u8],
-    subscriber: u16,
-    publisher: u16,
-    tick: u64,
-    event: &Event,
-) -> Result<(), AllocError>
-    requires { AreNamed topo.now subscriber publisher }
-    ensures { OnOk result (words.new ≡ words.old ++ (first.now ++ behind_blanks
-        (name_at topo.now.subscribers subscriber ∷ name_at topo.now.publishers publisher ∷ decimal tick ∷
-        json_text event.now ∷ []))) }
-{
-    words.append(first)?;
-    push_subscriber(words, topo, subscriber)?;
-    push_publisher(words, topo, publisher)?;
-    push_number(words, tick)?;
-    push_event(words, event)
 }
 
 /// A line of a subscriber and a publisher. The first word comes with the blank before it.
@@ -338,41 +314,6 @@ fn push_known(words: &mut Text, joins: &Joins, runs: &Piece<K>) -> Result<(), Al
     push_know_runs(words, runs)
 }
 
-/// The line of a frame of curiosity.
-fn push_sent_want(
-    words: &mut Text,
-    topo: &Topology,
-    number: u64,
-    from: u16,
-    to: u16,
-    publisher: u16,
-    runs: &Piece<Q3>,
-) -> Result<(), AllocError>
-    requires { IsSentNamed topo.now from to publisher }
-    ensures { OnOk result
-        (words.new ≡ words.old ++ row_of topo.now (Report.SentWant number from to publisher runs.now)) }
-{
-    push_sent(words, topo, number, from, to, b"want", publisher)?;
-    push_want_runs(words, runs)
-}
-
-/// The line of a frame that tells what to expect.
-fn push_sent_expect(
-    words: &mut Text,
-    topo: &Topology,
-    number: u64,
-    from: u16,
-    to: u16,
-    publisher: u16,
-    tick: u64,
-) -> Result<(), AllocError>
-    requires { IsSentNamed topo.now from to publisher }
-    ensures { OnOk result (words.new ≡ words.old ++ row_of topo.now (Report.SentExpect number from to publisher tick)) }
-{
-    push_sent(words, topo, number, from, to, b"expect", publisher)?;
-    push_number(words, tick)
-}
-
 /// The line of a crash.
 fn push_crashed(words: &mut Text, topo: &Topology, broker: u16) -> Result<(), AllocError>
     requires { broker < length topo.now.brokers }
@@ -495,21 +436,6 @@ fn word_of_note_fault(fault: u8) -> &'static [u8]
         Some(kind) => kind.word().as_bytes(),
         None => unreachable!(),
     }
-}
-
-/// The line of a datagram that begins as a note, and is none.
-fn push_bad_note(
-    words: &mut Text,
-    topo: &Topology,
-    broker: u16,
-    fault: u8,
-    at: u64,
-) -> Result<(), AllocError>
-    requires { IsNamed topo.now (Report.DroppedBadNote broker fault at) }
-    ensures { OnOk result (words.new ≡ words.old ++ row_of topo.now (Report.DroppedBadNote broker fault at)) }
-{
-    push_dropped(words, topo, broker, b"bad-note")?;
-    push_pair(words, word_of_note_fault(fault), at)
 }
 
 /// The line of a note that is no Submit, or none of a client of the broker.
@@ -721,7 +647,10 @@ fn push_heard(words: &mut Text, report: &Report, topo: &Topology) -> Result<(), 
             publisher,
             tick,
             event,
-        } => push_handed(words, topo, b" got", *subscriber, *publisher, *tick, event),
+        } => {
+            push_named_tick(words, topo, b" got", *subscriber, *publisher, *tick)?;
+            push_event(words, event)
+        }
         Report::Horizon {
             subscriber,
             publisher,
@@ -732,15 +661,10 @@ fn push_heard(words: &mut Text, report: &Report, topo: &Topology) -> Result<(), 
             publisher,
             tick,
             event,
-        } => push_handed(
-            words,
-            topo,
-            b" ordered",
-            *subscriber,
-            *publisher,
-            *tick,
-            event,
-        ),
+        } => {
+            push_named_tick(words, topo, b" ordered", *subscriber, *publisher, *tick)?;
+            push_event(words, event)
+        }
         Report::Doubt {
             broker,
             publisher,
@@ -774,14 +698,20 @@ fn push_frame(words: &mut Text, report: &Report, topo: &Topology) -> Result<(), 
             to,
             publisher,
             runs,
-        } => push_sent_want(words, topo, *number, *from, *to, *publisher, runs),
+        } => {
+            push_sent(words, topo, *number, *from, *to, b"want", *publisher)?;
+            push_want_runs(words, runs)
+        }
         Report::SentExpect {
             number,
             from,
             to,
             publisher,
             tick,
-        } => push_sent_expect(words, topo, *number, *from, *to, *publisher, *tick),
+        } => {
+            push_sent(words, topo, *number, *from, *to, b"expect", *publisher)?;
+            push_number(words, *tick)
+        }
         _ => unreachable!(),
     }
 }
@@ -820,9 +750,10 @@ fn push_drop(words: &mut Text, report: &Report, topo: &Topology) -> Result<(), A
             kept,
             came,
         } => push_clash(words, topo, *broker, *tick, kept, came),
-        Report::DroppedBadNote { broker, fault, at } => push_bad_note(
-            words, topo, *broker, *fault, *at,
-        ),
+        Report::DroppedBadNote { broker, fault, at } => {
+            push_dropped(words, topo, *broker, b"bad-note")?;
+            push_pair(words, word_of_note_fault(*fault), *at)
+        }
         Report::DroppedStrayNote { broker, publisher } => push_stray_note(
             words, topo, *broker, *publisher,
         ),
