@@ -3,8 +3,7 @@
 ghost use Rattle.std.specs.Prelude.{◌≡◌, ℕ, ◌<◌, ◌≤◌, ◌+◌, true, false, get_or, length, take, drop, IfOk, OnOk, OnErr};
 ghost use Rattle.std.specs.Prelude.{IsErr, Ok, None, vec_len};
 ghost use Rattle.gr_out.specs.Lane.{over, blank};
-ghost use Rattle.gr_out.specs.Stops.{StopCounts};
-ghost use Rattle.gr_sock.specs.Counts.{RaisesOnErr, KeepsSaid};
+ghost use Rattle.gr_sock.specs.Counts.{CountsFault};
 ghost use Rattle.gr_sock.specs.Folder.{AllSame, OthersSame, Remains, AllRemain, OthersRemain, AllNamed, HasFront};
 
 use crate::count::raised;
@@ -73,9 +72,7 @@ fn counted<T: Drop>(
 ) -> Result<T, Failed>
     ensures ok { IfOk outcome (λ x. result ≡ Ok x) }
     ensures err { OnErr outcome (IsErr result) }
-    ensures raises { RaisesOnErr faults.old faults.new result }
-    ensures cause { StopCounts false faults.old faults.new 0 0 result }
-    ensures said { KeepsSaid lane said.old said.new result }
+    ensures counts { CountsFault lane faults.old faults.new said.old said.new result }
 {
     match outcome {
         Ok(answer) => Ok(answer),
@@ -196,9 +193,8 @@ impl<D: Folder> FileDisk<D> {
         ensures here { D.tells → OnOk result ((D.file_of (folder_of self.new) lane).is_named ≡ true) }
         ensures first { D.tells → is_ready self.old lane ≡ false
             → OnOk result ((D.file_of (folder_of self.new) lane).is_kept ≡ true) }
-        ensures raises { RaisesOnErr (disk_faults self.old) (disk_faults self.new) result }
-        ensures cause { StopCounts false (disk_faults self.old) (disk_faults self.new) 0 0 result }
-        ensures said { KeepsSaid lane (disk_said self.old) (disk_said self.new) result }
+        ensures counts { CountsFault lane (disk_faults self.old) (disk_faults self.new)
+            (disk_said self.old) (disk_said self.new) result }
     {
         let outcome = make_ready(&mut self.folder, &mut self.ready, lane);
         counted(&mut self.faults, &mut self.said, lane, outcome)
@@ -234,9 +230,8 @@ impl<D: Folder> Disk for FileDisk<D> {
         ensures remains { D.tells → AllRemain (D.file_of (folder_of self.old)) (D.file_of (folder_of self.new)) }
         ensures first { D.tells → is_ready self.old lane ≡ false
             → OnOk result ((D.file_of (folder_of self.new) lane).is_kept ≡ true) }
-        ensures raises { RaisesOnErr (disk_faults self.old) (disk_faults self.new) result }
-        ensures cause { StopCounts false (disk_faults self.old) (disk_faults self.new) 0 0 result }
-        ensures said { KeepsSaid lane (disk_said self.old) (disk_said self.new) result }
+        ensures counts { CountsFault lane (disk_faults self.old) (disk_faults self.new)
+            (disk_said self.old) (disk_said self.new) result }
     {
         self.open(lane)?;
         let outcome = self.folder.size(lane);
@@ -251,9 +246,8 @@ impl<D: Folder> Disk for FileDisk<D> {
         ensures remains { D.tells → AllRemain (D.file_of (folder_of self.old)) (D.file_of (folder_of self.new)) }
         ensures first { D.tells → is_ready self.old lane ≡ false
             → OnOk result ((D.file_of (folder_of self.new) lane).is_kept ≡ true) }
-        ensures raises { RaisesOnErr (disk_faults self.old) (disk_faults self.new) result }
-        ensures cause { StopCounts false (disk_faults self.old) (disk_faults self.new) 0 0 result }
-        ensures said { KeepsSaid lane (disk_said self.old) (disk_said self.new) result }
+        ensures counts { CountsFault lane (disk_faults self.old) (disk_faults self.new)
+            (disk_said self.old) (disk_said self.new) result }
     {
         self.open(lane)?;
         let outcome = read_whole(&mut self.folder, lane, at, into);
@@ -269,9 +263,8 @@ impl<D: Folder> Disk for FileDisk<D> {
             (HasFront at bytes.now (D.file_of (folder_of self.old) lane).bytes
             (D.file_of (folder_of self.new) lane).bytes) }
         ensures others { D.tells → OthersRemain lane (D.file_of (folder_of self.old)) (D.file_of (folder_of self.new)) }
-        ensures raises { RaisesOnErr (disk_faults self.old) (disk_faults self.new) result }
-        ensures cause { StopCounts false (disk_faults self.old) (disk_faults self.new) 0 0 result }
-        ensures said { KeepsSaid lane (disk_said self.old) (disk_said self.new) result }
+        ensures counts { CountsFault lane (disk_faults self.old) (disk_faults self.new)
+            (disk_said self.old) (disk_said self.new) result }
     {
         self.open(lane)?;
         let outcome = write_whole(&mut self.folder, lane, at, bytes);
@@ -284,9 +277,8 @@ impl<D: Folder> Disk for FileDisk<D> {
         ensures err { D.tells → OnErr result
             (Remains (D.file_of (folder_of self.old) lane) (D.file_of (folder_of self.new) lane)) }
         ensures others { D.tells → OthersRemain lane (D.file_of (folder_of self.old)) (D.file_of (folder_of self.new)) }
-        ensures raises { RaisesOnErr (disk_faults self.old) (disk_faults self.new) result }
-        ensures cause { StopCounts false (disk_faults self.old) (disk_faults self.new) 0 0 result }
-        ensures said { KeepsSaid lane (disk_said self.old) (disk_said self.new) result }
+        ensures counts { CountsFault lane (disk_faults self.old) (disk_faults self.new)
+            (disk_said self.old) (disk_said self.new) result }
     {
         self.open(lane)?;
         let outcome = cut_to(&mut self.folder, lane, len);
@@ -298,9 +290,8 @@ impl<D: Folder> Disk for FileDisk<D> {
         ensures kept { D.tells → OnOk result ((D.file_of (folder_of self.new) lane).is_kept ≡ true) }
         ensures named { D.tells → OnOk result ((D.file_of (folder_of self.new) lane).is_named ≡ true) }
         ensures remains { D.tells → AllRemain (D.file_of (folder_of self.old)) (D.file_of (folder_of self.new)) }
-        ensures raises { RaisesOnErr (disk_faults self.old) (disk_faults self.new) result }
-        ensures cause { StopCounts false (disk_faults self.old) (disk_faults self.new) 0 0 result }
-        ensures said { KeepsSaid lane (disk_said self.old) (disk_said self.new) result }
+        ensures counts { CountsFault lane (disk_faults self.old) (disk_faults self.new)
+            (disk_said self.old) (disk_said self.new) result }
     {
         self.open(lane)?;
         let outcome = self.folder.sync(lane);
