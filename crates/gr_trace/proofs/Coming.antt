@@ -4,6 +4,7 @@ use Rattle.std.specs.Prelude.{if◌then◌else◌}
 use Rattle.gr_out.specs.declared.fault.RunFault.{RunFault}
 use Rattle.gr_out.specs.declared.fault.RunFault.TheVariants as run
 use Rattle.gr_out.specs.Entry.{Entry}
+use Rattle.gr_out.specs.Lane.{Lane}
 use Rattle.gr_out.proofs.Fronts.{front-nothing}
 use Rattle.gr_topo.specs.Topology.{TopologyView, IsTopology}
 use Rattle.gr_model.specs.NetOf.{net_of}
@@ -11,11 +12,12 @@ use Rattle.gr_model.specs.Broker.{max_tick}
 use Rattle.gr_model.specs.Arrivals.{Arrival, datagram, Request}
 use Rattle.gr_journal.specs.Lines.{arrival_text}
 use Rattle.gr_node.specs.Seen.{NodeView}
+use Rattle.gr_node.specs.Keeps.{IsServing}
 use Rattle.gr_node.specs.Plan.{Act, settles, is_ours, datagram_acts, acts_of, led_to}
 use Rattle.gr_node.specs.Done.{all_done, at_arrival}
 use Rattle.gr_node.specs.Went.{IsExact, IsCallFault, IsTurnFault, DiskMoves}
 use Rattle.gr_trace.specs.declared.gathering.Gathered.{Gathered}
-use Rattle.gr_trace.specs.Gathered.{Gathers}
+use Rattle.gr_trace.specs.Gathered.{IsEmpty, IsBetween, Gathers}
 use Rattle.gr_trace.specs.Traced.{noted}
 use Rattle.gr_trace.specs.Wrote.{line_of, written_at, Wrote, Writes}
 use Rattle.gr_trace.proofs.Groups.{acts_tell}
@@ -45,6 +47,12 @@ moves_from f s f' s' done result same m = elim (exact_or result) [
     rose = λ is. absurd (unknown (subst (λ (r : Answer). IsExact r) (sym is) tt));
   }
 ]
+
+-- all is as between two arrivals, where the call came through
+pub between_of : (t : TopologyView) (hosted : List ℕ) (tells : Type 0) (lanes : ℕ → Lane) (n : NodeView) (g : Gathered) (held : List ℕ) (result : Answer)
+    → OnOk result (IsServing t hosted tells lanes n) → OnOk result (IsEmpty g) → OnOk result (held ≡ []) → OnOk result (IsBetween t hosted tells lanes n g held)
+between_of t hosted tells lanes n g held (Ok x) serving empty written = record { serving = serving; empty = empty; written = written }
+between_of t hosted tells lanes n g held (Err e) serving empty written = tt
 
 turn_fault : (e : RunFault) → IsCallFault e → IsTurnFault e
 turn_fault run.Memory h = tt

@@ -1,5 +1,5 @@
 -- What brokers told and offered in memory
-use Rattle.std.specs.Prelude.{◌≡◌, ◌⊎◌, ℕ, List, [], ◌∷◌, ◌++◌, length, Some, IsSome, Result, Err, IsErrOf, OnOk, OnErr}
+use Rattle.std.specs.Prelude.{◌≡◌, ◌≢◌, ◌⊎◌, ℕ, List, [], ◌∷◌, ◌++◌, length, Some, IsSome, Result, Err, IsErrOf, OnOk, OnErr}
 use Rattle.gr_out.specs.declared.fault.RunFault.{RunFault}
 use Rattle.gr_out.specs.declared.fault.RunFault.TheVariants as run
 use Rattle.gr_out.specs.Lane.{Lane}
@@ -7,10 +7,12 @@ use Rattle.gr_topo.specs.Topology.{TopologyView}
 use Rattle.gr_model.specs.Orders.{ordered}
 use Rattle.gr_node.specs.Seen.{NodeView, broker_in, text_of}
 use Rattle.gr_node.specs.Of.{OthersStay}
+use Rattle.gr_node.specs.Keeps.{IsServing, IsDamagedHere}
+use Rattle.gr_node.specs.Lasting.{StartsKeep}
 use Rattle.gr_node.specs.Plan.{Act}
 use Rattle.gr_node.specs.Done.{all_done, settled}
 use Rattle.gr_node.specs.Went.{outside, IsExact, uses_disk, FirstIs, DiskMoves}
-use Rattle.gr_node.specs.Starting.{Started, Found}
+use Rattle.gr_node.specs.Starting.{Started, Found, IsFirstDamaged}
 use Rattle.gr_trace.specs.declared.gathering.Gathered.{Gathered}
 use Rattle.gr_trace.specs.declared.offers.Offer.{Offer}
 use Rattle.gr_trace.specs.Offered.{entries_of}
@@ -54,6 +56,24 @@ pub record DiskKeeps {S T : Type 0} (t : TopologyView) (hosted : List ℕ) (tell
     (faults stops : S → ℕ) (old new : S) (result : Result T RunFault) : Type 0 where
   pub others : tells → OthersStay t hosted (lane_of old) (lane_of new)
   pub disk_moves : DiskMoves (faults old) (stops old) (faults new) (stops new) result
+
+-- What a call keeps at which the brokers start: the same of the disk, and at every moment its lanes hold what they held
+-- before; a lane that is damaged is the first of its publisher's at a hosted broker; and no post has failed
+pub record OpenKeeps {S T : Type 0} (t : TopologyView) (hosted : List ℕ) (tells : Type 0) (lane_of : S → ℕ → Lane)
+    (faults stops : S → ℕ) (old new : S) (result : Result T RunFault) : Type 0 where
+  pub keeps : DiskKeeps t hosted tells lane_of faults stops old new result
+  pub kept : tells → StartsKeep t.late (lane_of old) (lane_of new)
+  pub damaged : tells → (p at : ℕ) → result ≡ Err (run.Damaged p at) → IsFirstDamaged t hosted p at (lane_of old)
+  pub damaged_here : IsDamagedHere t hosted result
+  pub never_post : result ≢ Err run.Post
+
+-- Between two arrivals: the brokers serve over the lanes that they left, nothing is gathered, and all that the page held
+-- is written
+pub record IsBetween (t : TopologyView) (hosted : List ℕ) (tells : Type 0) (lanes : ℕ → Lane) (n : NodeView)
+    (g : Gathered) (held : List ℕ) : Type 0 where
+  pub serving : IsServing t hosted tells lanes n
+  pub empty : IsEmpty g
+  pub written : held ≡ []
 
 -- How a call ends whose lines stand in memory: as it answered, with the lines that were on their way behind the others;
 -- or by want of memory

@@ -1,5 +1,5 @@
 -- How far code went with acts whose journal it writes: what it leaves, and what the sink and the post have of it
-use Rattle.std.specs.Prelude.{◌≡◌, ◌⊎◌, ℕ, ◌≤◌, Bool, true, if◌then◌else◌, List, [], ◌∷◌, ◌++◌, length, drop, Option}
+use Rattle.std.specs.Prelude.{◌≡◌, ◌⊎◌, ℕ, ◌≤◌, Bool, true, if◌then◌else◌, List, [], ◌∷◌, ◌++◌, length, map, drop, Option}
 use Rattle.std.specs.Prelude.{Result, is_ok, IsErrOf, OnOk, OnErr}
 use Rattle.std.specs.List.{AllByRecursion}
 use Rattle.gr_out.specs.declared.fault.RunFault.{RunFault}
@@ -16,12 +16,13 @@ use Rattle.gr_model_theorems.specs.Served.{IsOfBytes}
 use Rattle.gr_journal.specs.Groups.{said_text}
 use Rattle.gr_journal.specs.Lines.{arrival_text}
 use Rattle.gr_node.specs.Seen.{NodeView}
-use Rattle.gr_node.specs.Plan.{Act, is_ours, acts_from, closing, turn_acts}
+use Rattle.gr_node.specs.Keeps.{IsDamagedHere}
+use Rattle.gr_node.specs.Plan.{Act, is_ours, acts_from, closing, turn_acts, bound_entry, nodes}
 use Rattle.gr_node.specs.Done.{Done, done, all_done}
 use Rattle.gr_node.specs.Lasting.{ActsKeep, StoodEachTime}
 use Rattle.gr_node.specs.Served.{Course, IsRunOf, Posts, KeepsLogs}
 use Rattle.gr_node.specs.Turns.{CameIn, left_behind}
-use Rattle.gr_node.specs.Went.{IsExact, uses_disk, FirstIs, Begins, fault_entries}
+use Rattle.gr_node.specs.Went.{IsExact, uses_disk, FirstIs, Begins, fault_entries, SinkMoves, DiskMoves, PostMoves}
 use Rattle.gr_trace.specs.declared.gathering.Gathered.{Gathered}
 use Rattle.gr_trace.specs.Offered.{entries_of}
 use Rattle.gr_trace.specs.Gathered.{Opens}
@@ -123,3 +124,19 @@ pub record RunTraced {T : Type 0} (t : TopologyView) (hosted : List ℕ) (steps 
   pub posted : posts → Posts t hosted steps course journal journal' result
   pub traces : Traces t hosted steps course taken taken' result
   pub kept : keeps → KeepsLogs t hosted steps course lanes lanes' result
+
+-- so it does once all nodes are bound behind what the post had
+abbrev pub TracesBound : {T : Type 0} → TopologyView → List ℕ → List Line → ℕ → Type 0 → Type 0 → List Entry
+    → List Entry → Option (List ℕ) → Option (List ℕ) → (ℕ → Lane) → (ℕ → Lane) → Result T RunFault → Type 0
+TracesBound t hosted steps turns posts keeps bound journal' taken taken' lanes lanes' result =
+    (journal : List Entry) → (posts → bound ≡ journal ++ map (bound_entry t hosted) (nodes t hosted))
+    → RunTraced t hosted steps turns posts keeps journal journal' taken taken' lanes lanes' result
+
+-- How a run may end early: a lane that is damaged is one of a publisher at a hosted broker, and the counts move as the
+-- answer says
+pub record EndsEarly {S T : Type 0} (t : TopologyView) (hosted : List ℕ) (faults stops : S → ℕ) (old new : S)
+    (sink sink' post post' : ℕ) (result : Result T RunFault) : Type 0 where
+  pub damaged_here : IsDamagedHere t hosted result
+  pub disk_moves : DiskMoves (faults old) (stops old) (faults new) (stops new) result
+  pub sink_moves : SinkMoves sink sink' result
+  pub post_moves : PostMoves post post' result

@@ -1,19 +1,18 @@
 //! What brokers tell and offer at an arrival, gathered in memory.
 
-ghost use Rattle.std.specs.Prelude.{◌≡◌, ◌≢◌, ℕ, true, ◌++◌, List, [], drop, Err, IfOk, IfErr, OnOk};
+ghost use Rattle.std.specs.Prelude.{◌≡◌, true, ◌++◌, List, [], drop, IfOk, IfErr, OnOk};
 ghost use Rattle.gr_model.specs.NetOf.{net_of};
 ghost use Rattle.gr_model.specs.Arrivals.{datagram, quiet, Request, requests_of};
 ghost use Rattle.gr_model_theorems.specs.Served.{IsOfBytes};
 ghost use Rattle.gr_node.specs.Seen.{seen, none_started};
 ghost use Rattle.gr_node.specs.Of.{AreHosted};
-ghost use Rattle.gr_node.specs.Keeps.{IsServing, IsAsked, IsDamagedHere};
-ghost use Rattle.gr_node.specs.Lasting.{ActsKeep, StartsKeep};
+ghost use Rattle.gr_node.specs.Keeps.{IsServing, IsAsked};
+ghost use Rattle.gr_node.specs.Lasting.{ActsKeep};
 ghost use Rattle.gr_node.specs.Plan.{led_to};
 ghost use Rattle.gr_node.specs.Done.{at_arrival};
 ghost use Rattle.gr_node.specs.Turns.{IsFirst};
-ghost use Rattle.gr_node.specs.Starting.{IsFirstDamaged};
 ghost use Rattle.gr_node.specs.Went.{IsExact, IsCallFault};
-ghost use Rattle.gr_trace.specs.Gathered.{IsEmpty, Gathers, Opens, DiskKeeps, Ends};
+ghost use Rattle.gr_trace.specs.Gathered.{IsEmpty, Gathers, Opens, DiskKeeps, OpenKeeps, Ends};
 
 use crate::offers::OfferList;
 use gr_node::{Node, Site, datagram_comes, open_hosted, quiet_comes, settle};
@@ -100,13 +99,8 @@ fn start_and_settle<D: Disk>(
         (lines.new.held ++ page.new.held) (D.lane_of disk.old) result }
     ensures serving { OnOk result
         (IsServing site.now.topo.now site.now.hosted.now D.tells (D.lane_of disk.new) (seen node.new)) }
-    ensures keeps { DiskKeeps site.now.topo.now site.now.hosted.now D.tells D.lane_of D.faults D.stops
+    ensures starts { OpenKeeps site.now.topo.now site.now.hosted.now D.tells D.lane_of D.faults D.stops
         disk.old disk.new result }
-    ensures kept { D.tells → StartsKeep site.now.topo.now.late (D.lane_of disk.old) (D.lane_of disk.new) }
-    ensures damaged { D.tells → (p at : ℕ) → result ≡ Err (RunFault.Damaged p at)
-        → IsFirstDamaged site.now.topo.now site.now.hosted.now p at (D.lane_of disk.old) }
-    ensures damaged_here { IsDamagedHere site.now.topo.now site.now.hosted.now result }
-    ensures never_post { result ≢ Err RunFault.Post }
 {
     match open_hosted(site, node, disk, page, lines) {
         Ok(()) => settle(site, node, page, lines),
@@ -136,13 +130,8 @@ pub fn open<D: Disk>(
     ensures offers { gathered.new.offers ≡ [] }
     ensures serving { OnOk result
         (IsServing site.now.topo.now site.now.hosted.now D.tells (D.lane_of disk.new) (seen node.new)) }
-    ensures keeps { DiskKeeps site.now.topo.now site.now.hosted.now D.tells D.lane_of D.faults D.stops
+    ensures starts { OpenKeeps site.now.topo.now site.now.hosted.now D.tells D.lane_of D.faults D.stops
         disk.old disk.new result }
-    ensures kept { D.tells → StartsKeep site.now.topo.now.late (D.lane_of disk.old) (D.lane_of disk.new) }
-    ensures damaged { D.tells → (p at : ℕ) → result ≡ Err (RunFault.Damaged p at)
-        → IsFirstDamaged site.now.topo.now site.now.hosted.now p at (D.lane_of disk.old) }
-    ensures damaged_here { IsDamagedHere site.now.topo.now site.now.hosted.now result }
-    ensures never_post { result ≢ Err RunFault.Post }
 {
     let done = start_and_settle(site, node, disk, &mut gathered.page, &mut gathered.lines);
     finish(done, &mut gathered.page, &mut gathered.lines)

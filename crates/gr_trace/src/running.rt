@@ -12,7 +12,7 @@ ghost use Rattle.gr_node.specs.Plan.{led_to};
 ghost use Rattle.gr_node.specs.Done.{at_arrival};
 ghost use Rattle.gr_node.specs.Turns.{IsFirst};
 ghost use Rattle.gr_node.specs.Went.{IsTurnFault, SinkMoves};
-ghost use Rattle.gr_trace.specs.Gathered.{IsEmpty};
+ghost use Rattle.gr_trace.specs.Gathered.{IsEmpty, IsBetween};
 ghost use Rattle.gr_trace.specs.Wrote.{gathered_text, line_of, Wrote, Writes, TurnTraced, TurnsTraced};
 
 use crate::gathering::{Gathered, is_known, take_datagram, take_quiet};
@@ -101,9 +101,8 @@ fn trace_datagram<D: Disk, P: Post, K: Sink>(
     page: &mut Page,
     sink: &mut K,
 ) -> Result<(), RunFault>
-    requires serving { IsServing site.now.topo.now site.now.hosted.now D.tells (D.lane_of disk.old) (seen node.old) }
-    requires empty { IsEmpty gathered.old }
-    requires written { page.old.held ≡ [] }
+    requires between { IsBetween site.now.topo.now site.now.hosted.now D.tells (D.lane_of disk.old) (seen node.old)
+        gathered.old page.old.held }
     ensures bytes { IsOfBytes (datagram b bytes.now moment) }
     ensures wrote { (left : List Request) → Wrote site.now.topo.now site.now.hosted.now P.tells
         (led_to (net_of site.now.topo.now) site.now.hosted.now left (datagram b bytes.now moment))
@@ -114,10 +113,8 @@ fn trace_datagram<D: Disk, P: Post, K: Sink>(
         (at_arrival site.now.hosted.now (seen node.old) (datagram b bytes.now moment))
         (led_to (net_of site.now.topo.now) site.now.hosted.now left (datagram b bytes.now moment))
         (D.lane_of disk.old) (D.lane_of disk.new) }
-    ensures empty { OnOk result (IsEmpty gathered.new) }
-    ensures written { OnOk result (page.new.held ≡ []) }
-    ensures serving { OnOk result
-        (IsServing site.now.topo.now site.now.hosted.now D.tells (D.lane_of disk.new) (seen node.new)) }
+    ensures between { OnOk result (IsBetween site.now.topo.now site.now.hosted.now D.tells (D.lane_of disk.new)
+        (seen node.new) gathered.new page.new.held) }
     ensures keeps { TurnKeeps site.now.topo.now site.now.hosted.now D.tells D.lane_of D.faults D.stops disk.old disk.new
         (K.faults sink.old) (K.faults sink.new) (P.faults post.old) (P.faults post.new) result }
     ensures cause { IfErr result IsTurnFault }
@@ -150,9 +147,8 @@ fn trace_quiet<D: Disk, P: Post, K: Sink>(
 ) -> Result<(), RunFault>
     requires asked { IsAsked site.now.topo.now site.now.hosted.now steps.now }
     requires first { IsFirst (net_of site.now.topo.now) site.now.hosted.now (drop next steps.now) }
-    requires serving { IsServing site.now.topo.now site.now.hosted.now D.tells (D.lane_of disk.old) (seen node.old) }
-    requires empty { IsEmpty gathered.old }
-    requires written { page.old.held ≡ [] }
+    requires between { IsBetween site.now.topo.now site.now.hosted.now D.tells (D.lane_of disk.old) (seen node.old)
+        gathered.old page.old.held }
     ensures wrote { Wrote site.now.topo.now site.now.hosted.now P.tells
         (led_to (net_of site.now.topo.now) site.now.hosted.now
         (requests_of (net_of site.now.topo.now) site.now.hosted.now (drop next steps.now)) (quiet moment))
@@ -164,13 +160,11 @@ fn trace_quiet<D: Disk, P: Post, K: Sink>(
         (led_to (net_of site.now.topo.now) site.now.hosted.now
         (requests_of (net_of site.now.topo.now) site.now.hosted.now (drop next steps.now)) (quiet moment))
         (D.lane_of disk.old) (D.lane_of disk.new) }
-    ensures empty { OnOk result (IsEmpty gathered.new) }
-    ensures written { OnOk result (page.new.held ≡ []) }
-    ensures serving { OnOk result
-        (IsServing site.now.topo.now site.now.hosted.now D.tells (D.lane_of disk.new) (seen node.new)) }
+    ensures cause { IfErr result IsTurnFault }
+    ensures between { OnOk result (IsBetween site.now.topo.now site.now.hosted.now D.tells (D.lane_of disk.new)
+        (seen node.new) gathered.new page.new.held) }
     ensures keeps { TurnKeeps site.now.topo.now site.now.hosted.now D.tells D.lane_of D.faults D.stops disk.old disk.new
         (K.faults sink.old) (K.faults sink.new) (P.faults post.old) (P.faults post.new) result }
-    ensures cause { IfErr result IsTurnFault }
 {
     // Proof only: the limits of a topology.
     let _ = site.topo.brokers();
@@ -196,9 +190,8 @@ fn turn<D: Disk, P: Paced, K: Sink>(
     sink: &mut K,
 ) -> Result<bool, RunFault>
     requires asked { IsAsked site.now.topo.now site.now.hosted.now steps.now }
-    requires serving { IsServing site.now.topo.now site.now.hosted.now D.tells (D.lane_of disk.old) (seen node.old) }
-    requires empty { IsEmpty gathered.old }
-    requires written { page.old.held ≡ [] }
+    requires between { IsBetween site.now.topo.now site.now.hosted.now D.tells (D.lane_of disk.old) (seen node.old)
+        gathered.old page.old.held }
     requires within { next.old ≤ length steps.now }
     requires first { IsFirst (net_of site.now.topo.now) site.now.hosted.now (drop next.old steps.now) }
     requires piece { length piece.old ≡ 65535 }
@@ -208,12 +201,10 @@ fn turn<D: Disk, P: Paced, K: Sink>(
         (P.journal post.old) (P.journal post.new) (D.lane_of disk.old) (D.lane_of disk.new) result }
     ensures within { OnOk result (next.new ≤ length steps.now) }
     ensures first { OnOk result (IsFirst (net_of site.now.topo.now) site.now.hosted.now (drop next.new steps.now)) }
-    ensures empty { OnOk result (IsEmpty gathered.new) }
-    ensures written { OnOk result (page.new.held ≡ []) }
     ensures serving_at_post { IsErrOf result RunFault.Post
         → IsServing site.now.topo.now site.now.hosted.now D.tells (D.lane_of disk.new) (seen node.new) }
-    ensures serving { OnOk result
-        (IsServing site.now.topo.now site.now.hosted.now D.tells (D.lane_of disk.new) (seen node.new)) }
+    ensures between { OnOk result (IsBetween site.now.topo.now site.now.hosted.now D.tells (D.lane_of disk.new)
+        (seen node.new) gathered.new page.new.held) }
     ensures keeps { RunKeeps site.now.topo.now site.now.hosted.now D.tells D.lane_of D.faults D.stops disk.old disk.new
         (K.faults sink.old) (K.faults sink.new) (P.faults post.old) (P.faults post.new) result }
 {
@@ -276,24 +267,23 @@ pub(crate) fn run<D: Disk, P: Paced, K: Sink>(
     sink: &mut K,
 ) -> Result<(), RunFault>
     requires asked { IsAsked site.now.topo.now site.now.hosted.now steps.now }
-    requires serving { IsServing site.now.topo.now site.now.hosted.now D.tells (D.lane_of disk.old) (seen node.old) }
-    requires empty { IsEmpty gathered.old }
-    requires written { page.old.held ≡ [] }
+    requires between { IsBetween site.now.topo.now site.now.hosted.now D.tells (D.lane_of disk.old) (seen node.old)
+        gathered.old page.old.held }
     ensures traced { TurnsTraced site.now.topo.now site.now.hosted.now P.tells D.tells steps.now turns
         (seen node.old) (seen node.new) (K.taken sink.old) (K.taken sink.new)
         (P.journal post.old) (P.journal post.new) (D.lane_of disk.old) (D.lane_of disk.new) result }
+    ensures keeps { RunKeeps site.now.topo.now site.now.hosted.now D.tells D.lane_of D.faults D.stops disk.old disk.new
+        (K.faults sink.old) (K.faults sink.new) (P.faults post.old) (P.faults post.new) result }
     ensures serving { OnOk result
         (IsServing site.now.topo.now site.now.hosted.now D.tells (D.lane_of disk.new) (seen node.new)) }
     ensures serving_at_post { IsErrOf result RunFault.Post
         → IsServing site.now.topo.now site.now.hosted.now D.tells (D.lane_of disk.new) (seen node.new) }
-    ensures keeps { RunKeeps site.now.topo.now site.now.hosted.now D.tells D.lane_of D.faults D.stops disk.old disk.new
-        (K.faults sink.old) (K.faults sink.new) (P.faults post.old) (P.faults post.new) result }
 {
+    let mut next = next_request(site, steps, 0);
     let mut piece = match new_piece(site.alloc) {
         Ok(piece) => piece,
         Err(_) => return Err(RunFault::Memory),
     };
-    let mut next = next_request(site, steps, 0);
     'turns: for _ in 0..turns {
         match turn(
             site, node, steps, &mut next, &mut piece, disk, post, gathered, page, sink,

@@ -1,21 +1,17 @@
 //! A whole run that is written as a journal.
 
-ghost use Rattle.std.specs.Prelude.{◌≡◌, ◌≢◌, ℕ, ◌++◌, false, List, [], map, Err, OnOk, IsOkUnless};
-ghost use Rattle.gr_out.specs.Entry.{Entry};
+ghost use Rattle.std.specs.Prelude.{◌≡◌, false, [], OnOk, IsOkUnless};
 ghost use Rattle.gr_scenario.specs.Steps.{AreStepsOf};
 ghost use Rattle.gr_audit.specs.Audited.{has_clients};
 ghost use Rattle.gr_node.specs.Of.{AreHosted, AreAddressed};
-ghost use Rattle.gr_node.specs.Keeps.{IsServing, IsAsked, IsDamagedHere};
-ghost use Rattle.gr_node.specs.Lasting.{StartsKeep};
-ghost use Rattle.gr_node.specs.Plan.{bound_entry, nodes};
+ghost use Rattle.gr_node.specs.Keeps.{IsAsked, IsDamagedHere};
 ghost use Rattle.gr_node.specs.Seen.{seen, none_started};
-ghost use Rattle.gr_node.specs.Starting.{IsFirstDamaged};
 ghost use Rattle.gr_node.specs.Served.{Course, IsRunOf, Posts, KeepsLogs};
 ghost use Rattle.gr_node.specs.Went.{SinkMoves, DiskMoves, PostMoves};
 ghost use Rattle.gr_journal.specs.Lines.{process_text};
-ghost use Rattle.gr_trace.specs.Gathered.{IsEmpty, DiskKeeps};
+ghost use Rattle.gr_trace.specs.Gathered.{IsEmpty, OpenKeeps, IsBetween};
 ghost use Rattle.gr_trace.specs.Traced.{Traces};
-ghost use Rattle.gr_trace.specs.Wrote.{OpeningTraced, RunTraced};
+ghost use Rattle.gr_trace.specs.Wrote.{OpeningTraced, TracesBound, EndsEarly};
 
 use crate::gathering::{Gathered, open};
 use crate::running::{run, write_gathered};
@@ -59,17 +55,10 @@ fn trace_opening<D: Disk, P: Post, K: Sink>(
     ensures opening { OpeningTraced site.now.topo.now site.now.hosted.now D.tells (seen node.new)
         (process_text site.now.topo.now site.now.hosted.now) (K.taken sink.old) (K.taken sink.new)
         (D.lane_of disk.old) result }
-    ensures empty { OnOk result (IsEmpty gathered.new) }
-    ensures written { OnOk result (page.new.held ≡ []) }
-    ensures serving { OnOk result
-        (IsServing site.now.topo.now site.now.hosted.now D.tells (D.lane_of disk.new) (seen node.new)) }
-    ensures keeps { DiskKeeps site.now.topo.now site.now.hosted.now D.tells D.lane_of D.faults D.stops
+    ensures between { OnOk result (IsBetween site.now.topo.now site.now.hosted.now D.tells (D.lane_of disk.new)
+        (seen node.new) gathered.new page.new.held) }
+    ensures starts { OpenKeeps site.now.topo.now site.now.hosted.now D.tells D.lane_of D.faults D.stops
         disk.old disk.new result }
-    ensures kept { D.tells → StartsKeep site.now.topo.now.late (D.lane_of disk.old) (D.lane_of disk.new) }
-    ensures damaged { D.tells → (p at : ℕ) → result ≡ Err (RunFault.Damaged p at)
-        → IsFirstDamaged site.now.topo.now site.now.hosted.now p at (D.lane_of disk.old) }
-    ensures damaged_here { IsDamagedHere site.now.topo.now site.now.hosted.now result }
-    ensures never_post { result ≢ Err RunFault.Post }
     ensures sink { SinkMoves (K.faults sink.old) (K.faults sink.new) result }
     ensures post { P.faults post.new ≡ P.faults post.old }
     ensures unsent { P.tells → P.journal post.new ≡ P.journal post.old }
@@ -98,14 +87,11 @@ fn trace_with<D: Disk, P: Paced, K: Sink>(
     requires unheard { has_clients site.now.topo.now ≡ false }
     requires none { seen node.old ≡ none_started site.now.topo.now }
     requires empty { IsEmpty gathered.old }
-    ensures traces { (journal : List Entry) → (P.tells → P.journal post.old ≡ journal
-        ++ map (bound_entry site.now.topo.now site.now.hosted.now) (nodes site.now.topo.now site.now.hosted.now))
-        → RunTraced site.now.topo.now site.now.hosted.now steps.now turns P.tells D.tells journal (P.journal post.new)
-        (K.taken sink.old) (K.taken sink.new) (D.lane_of disk.old) (D.lane_of disk.new) result }
-    ensures damaged_here { IsDamagedHere site.now.topo.now site.now.hosted.now result }
-    ensures disk { DiskMoves (D.faults disk.old) (D.stops disk.old) (D.faults disk.new) (D.stops disk.new) result }
-    ensures sink { SinkMoves (K.faults sink.old) (K.faults sink.new) result }
-    ensures post { PostMoves (P.faults post.old) (P.faults post.new) result }
+    ensures ends { EndsEarly site.now.topo.now site.now.hosted.now D.faults D.stops disk.old disk.new
+        (K.faults sink.old) (K.faults sink.new) (P.faults post.old) (P.faults post.new) result }
+    ensures traces { TracesBound site.now.topo.now site.now.hosted.now steps.now turns P.tells D.tells
+        (P.journal post.old) (P.journal post.new) (K.taken sink.old) (K.taken sink.new)
+        (D.lane_of disk.old) (D.lane_of disk.new) result }
 {
     // Proof only: the limits of a topology, what stands in lanes, and that no log has a part in what is received.
     let _ = site.topo.brokers();
@@ -128,14 +114,11 @@ fn trace_bound<D: Disk, P: Paced, K: Sink>(
 ) -> Result<(), RunFault>
     requires asked { IsAsked site.now.topo.now site.now.hosted.now steps.now }
     requires unheard { has_clients site.now.topo.now ≡ false }
-    ensures traces { (journal : List Entry) → (P.tells → P.journal post.old ≡ journal
-        ++ map (bound_entry site.now.topo.now site.now.hosted.now) (nodes site.now.topo.now site.now.hosted.now))
-        → RunTraced site.now.topo.now site.now.hosted.now steps.now turns P.tells D.tells journal (P.journal post.new)
-        (K.taken sink.old) (K.taken sink.new) (D.lane_of disk.old) (D.lane_of disk.new) result }
-    ensures damaged_here { IsDamagedHere site.now.topo.now site.now.hosted.now result }
-    ensures disk { DiskMoves (D.faults disk.old) (D.stops disk.old) (D.faults disk.new) (D.stops disk.new) result }
-    ensures sink { SinkMoves (K.faults sink.old) (K.faults sink.new) result }
-    ensures post { PostMoves (P.faults post.old) (P.faults post.new) result }
+    ensures traces { TracesBound site.now.topo.now site.now.hosted.now steps.now turns P.tells D.tells
+        (P.journal post.old) (P.journal post.new) (K.taken sink.old) (K.taken sink.new)
+        (D.lane_of disk.old) (D.lane_of disk.new) result }
+    ensures ends { EndsEarly site.now.topo.now site.now.hosted.now D.faults D.stops disk.old disk.new
+        (K.faults sink.old) (K.faults sink.new) (P.faults post.old) (P.faults post.new) result }
 {
     // Proof only: the limits of a topology.
     let _ = site.topo.brokers();

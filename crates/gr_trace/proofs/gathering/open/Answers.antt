@@ -14,19 +14,18 @@ returns-clause-opens g c = λ x.
 pub returns-clause-serving : goal.returns-clause-serving
 returns-clause-serving g c = ok_end c.start_and_settle-done.result c.finish.result _ _ _ _ _ c.finish.ensures c.start_and_settle-done.ensures.serving
 
-pub returns-clause-keeps : goal.returns-clause-keeps
-returns-clause-keeps g c = record {
-  others = c.start_and_settle-done.ensures.keeps.others;
-  disk_moves = moves_end _ _ _ _ c.start_and_settle-done.result c.finish.result _ _ _ _ c.finish.ensures c.start_and_settle-done.ensures.keeps.disk_moves;
-}
-
-pub returns-clause-damaged : goal.returns-clause-damaged
-returns-clause-damaged g c = λ tells p at e.
-    c.start_and_settle-done.ensures.damaged tells p at (fault_end c.start_and_settle-done.result c.finish.result _ _ _ _ (run.Damaged p at) (λ is. cc) c.finish.ensures e)
-
-pub returns-clause-damaged_here : goal.returns-clause-damaged_here
-returns-clause-damaged_here g c = λ p at e.
-    c.start_and_settle-done.ensures.damaged_here p at (fault_end c.start_and_settle-done.result c.finish.result _ _ _ _ (run.Damaged p at) (λ is. cc) c.finish.ensures e)
-
-pub returns-clause-never_post : goal.returns-clause-never_post
-returns-clause-never_post g c = λ e. c.start_and_settle-done.ensures.never_post (fault_end c.start_and_settle-done.result c.finish.result _ _ _ _ run.Post (λ is. cc) c.finish.ensures e)
+pub returns-clause-starts : goal.returns-clause-starts
+returns-clause-starts g c =
+    let before = c.start_and_settle-done in
+    let starts = before.ensures.starts in
+    let ends = c.finish.ensures in
+    record {
+      keeps = record {
+        others = starts.keeps.others;
+        disk_moves = moves_end _ _ _ _ before.result c.finish.result _ _ _ _ ends starts.keeps.disk_moves;
+      };
+      kept = starts.kept;
+      damaged = λ tells p at e. starts.damaged tells p at (fault_end before.result c.finish.result _ _ _ _ (run.Damaged p at) (λ is. cc) ends e);
+      damaged_here = λ p at e. starts.damaged_here p at (fault_end before.result c.finish.result _ _ _ _ (run.Damaged p at) (λ is. cc) ends e);
+      never_post = λ e. starts.never_post (fault_end before.result c.finish.result _ _ _ _ run.Post (λ is. cc) ends e);
+    }

@@ -22,20 +22,17 @@ returns-in-Ok-clause-serving g c =
     serving_settled c.args.site.now.topo.now c.args.site.now.hosted.now g.D.Disk.tells (g.D.Disk.lane_of c.open_hosted.new.disk) (seen c.open_hosted.new.node) (seen c.settle.new.node) c.settle.result c.settle.ensures.node
     (record { set = c.in-Ok.ensures.set; stands = c.in-Ok.ensures.stands })
 
-pub returns-in-Ok-clause-keeps : goal.returns-in-Ok-clause-keeps
-returns-in-Ok-clause-keeps g c = record {
-  others = c.in-Ok.ensures.others;
-  disk_moves = moves_put _ _ _ _ c.settle.result c.in-Ok.ensures.disk.same c.settle.ensures.puts.cause;
+pub returns-in-Ok-clause-starts : goal.returns-in-Ok-clause-starts
+returns-in-Ok-clause-starts g c = record {
+  keeps = record {
+    others = c.in-Ok.ensures.others;
+    disk_moves = moves_put _ _ _ _ c.settle.result c.in-Ok.ensures.disk.same c.settle.ensures.puts.cause;
+  };
+  kept = c.in-Ok.ensures.kept;
+  damaged = λ tells p at e. absurd (put_kind c.settle.result (run.Damaged p at) c.settle.ensures.puts.cause e);
+  damaged_here = λ p at e. absurd (put_kind c.settle.result (run.Damaged p at) c.settle.ensures.puts.cause e);
+  never_post = λ e. put_kind c.settle.result run.Post c.settle.ensures.puts.cause e;
 }
-
-pub returns-in-Ok-clause-damaged : goal.returns-in-Ok-clause-damaged
-returns-in-Ok-clause-damaged g c = λ tells p at e. absurd (put_kind c.settle.result (run.Damaged p at) c.settle.ensures.puts.cause e)
-
-pub returns-in-Ok-clause-damaged_here : goal.returns-in-Ok-clause-damaged_here
-returns-in-Ok-clause-damaged_here g c = λ p at e. absurd (put_kind c.settle.result (run.Damaged p at) c.settle.ensures.puts.cause e)
-
-pub returns-in-Ok-clause-never_post : goal.returns-in-Ok-clause-never_post
-returns-in-Ok-clause-never_post g c = λ e. put_kind c.settle.result run.Post c.settle.ensures.puts.cause e
 
 pub returns-in-Err-clause-opens : goal.returns-in-Err-clause-opens
 returns-in-Err-clause-opens g c = λ exact.

@@ -19,9 +19,7 @@ turns-init g c = record {
       c.next_request-next.ensures.same (kept_first g.D.Disk.tells c.args.site.now.topo.now c.args.site.now.hosted.now c.args.steps.now (seen c.args.node.now) (g.D.Disk.lane_of c.args.disk.now));
   within = c.next_request-next.ensures.within.1;
   first = c.next_request-next.ensures.first;
-  empty = c.requires.empty;
-  written = c.requires.written;
-  serving = c.requires.serving;
+  between = c.requires.between;
   others = λ tells lane here. refl;
   faults = refl;
   stops = refl;
@@ -38,12 +36,10 @@ turns-preserved g c =
       goes = more_traced c.args.site.now.topo.now c.args.site.now.hosted.now g.P.Post.tells g.D.Disk.tells c.args.steps.now _ _ c.turns.counter (seen c.args.node.now) (seen c.turns.node) _ _ _ _ _ _ _ _ _ _
           (KeptSoFar g.D.Disk.tells c.args.site.now.topo.now c.args.site.now.hosted.now c.args.steps.now (seen c.args.node.now) (g.D.Disk.lane_of c.args.disk.now) (g.D.Disk.lane_of c.turn.new.disk)) c.in-Ok-turn.goes_on c.if-not-goes_on.false i.goes c.in-Ok-turn.ensures.traced
           (kept_turn g.D.Disk.tells c.args.site.now.topo.now c.args.site.now.hosted.now c.args.steps.now c.turns.next (seen c.args.node.now) (seen c.turns.node) i.goes.came (g.D.Disk.lane_of c.args.disk.now) (g.D.Disk.lane_of c.turns.disk) (g.D.Disk.lane_of c.turn.new.disk)
-          i.goes.stood i.goes.goes.node i.goes.left i.serving.set i.serving.stands);
+          i.goes.stood i.goes.goes.node i.goes.left i.between.serving.set i.between.serving.stands);
       within = c.in-Ok-turn.ensures.within;
       first = c.in-Ok-turn.ensures.first;
-      empty = c.in-Ok-turn.ensures.empty;
-      written = c.in-Ok-turn.ensures.written;
-      serving = c.in-Ok-turn.ensures.serving;
+      between = c.in-Ok-turn.ensures.between;
       others = λ tells lane here. k.others tells lane here ∙ i.others tells lane here;
       faults = k.disk_moves.same.0 ∙ i.faults;
       stops = k.disk_moves.same.1 ∙ i.stops;
@@ -57,14 +53,14 @@ returns-then-not-goes_on-clause-traced g c =
     let i = c.turns.invariant in
     traced_shut c.args.site.now.topo.now c.args.site.now.hosted.now g.P.Post.tells g.D.Disk.tells c.args.steps.now _ _ c.turns.counter c.args.turns (seen c.args.node.now) (seen c.turns.node) _ _ _ _ _ _ _ _ _ _ _ tt c.in-Ok-turn.goes_on c.if-not-goes_on.true c.turns-test.true i.goes c.in-Ok-turn.ensures.traced
     (kept_turn g.D.Disk.tells c.args.site.now.topo.now c.args.site.now.hosted.now c.args.steps.now c.turns.next (seen c.args.node.now) (seen c.turns.node) i.goes.came (g.D.Disk.lane_of c.args.disk.now) (g.D.Disk.lane_of c.turns.disk) (g.D.Disk.lane_of c.turn.new.disk)
-    i.goes.stood i.goes.goes.node i.goes.left i.serving.set i.serving.stands)
+    i.goes.stood i.goes.goes.node i.goes.left i.between.serving.set i.between.serving.stands)
 
 pub returns-in-Err-turn-clause-traced : goal.returns-in-Err-turn-clause-traced
 returns-in-Err-turn-clause-traced g c =
     let i = c.turns.invariant in
     traced_cut c.args.site.now.topo.now c.args.site.now.hosted.now g.P.Post.tells g.D.Disk.tells c.args.steps.now _ _ c.turns.counter c.args.turns (seen c.args.node.now) (seen c.turns.node) _ _ _ _ _ _ _ _ _ _ _ c.in-Err-turn.fault c.turns-test.true i.goes c.in-Err-turn.ensures.traced
     (kept_turn g.D.Disk.tells c.args.site.now.topo.now c.args.site.now.hosted.now c.args.steps.now c.turns.next (seen c.args.node.now) (seen c.turns.node) i.goes.came (g.D.Disk.lane_of c.args.disk.now) (g.D.Disk.lane_of c.turns.disk) (g.D.Disk.lane_of c.turn.new.disk)
-    i.goes.stood i.goes.goes.node i.goes.left i.serving.set i.serving.stands)
+    i.goes.stood i.goes.goes.node i.goes.left i.between.serving.set i.between.serving.stands)
 
 pub returns-clause-traced : goal.returns-clause-traced
 returns-clause-traced g c =

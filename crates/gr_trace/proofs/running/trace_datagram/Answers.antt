@@ -6,7 +6,7 @@ use Rattle.gr_model.specs.Arrivals.{datagram}
 use Rattle.gr_node.specs.Seen.{seen}
 use Rattle.gr_node.specs.Done.{at_arrival}
 use Rattle.gr_node.proofs.Lasting.{acts_same}
-use Rattle.gr_trace.proofs.Coming.{ok_from, moves_from, cause_from, wrote_came, wrote_unput, wrote_elsewhere}
+use Rattle.gr_trace.proofs.Coming.{ok_from, moves_from, cause_from, between_of, wrote_came, wrote_unput, wrote_elsewhere}
 use Rattle.gr_trace.proofs.running.trace_datagram.Goals as goal
 
 pub returns-then-not-is_among-clause-bytes : goal.returns-then-not-is_among-clause-bytes
@@ -36,11 +36,14 @@ returns-clause-wrote g c = λ left.
     let a = datagram c.args.b c.args.bytes.now c.args.moment in
     wrote_came t hosted c.brokers.ensures.topology g.P.Post.tells left a (sym c.is_among.ensures ∙ c.if-not-is_among.false) (at_arrival hosted (seen c.args.node.now) a) (seen c.take_datagram-done.new.node) c.take_datagram-done.new.gathered c.push_datagram.new.text
     (g.K.Sink.taken c.args.sink.now) (g.K.Sink.taken c.write_gathered.new.sink) (g.P.Post.journal c.args.post.now) (g.P.Post.journal c.write_gathered.new.post) c.take_datagram-done.result c.write_gathered.result
-    (c.in-Ok.ensures ∙ (ap (λ (p : PageView). p.held ++ arrival_text t (Datagram c.args.b c.min.result c.args.bytes.now)) c.page.view_is ∙ (ap (λ held. held ++ arrival_text t (Datagram c.args.b c.min.result c.args.bytes.now)) c.requires.written ∙ ap (λ moment. arrival_text t (Datagram c.args.b moment c.args.bytes.now)) c.min.ensures)))
+    (c.in-Ok.ensures ∙ (ap (λ (p : PageView). p.held ++ arrival_text t (Datagram c.args.b c.min.result c.args.bytes.now)) c.page.view_is ∙ (ap (λ held. held ++ arrival_text t (Datagram c.args.b c.min.result c.args.bytes.now)) c.requires.between.written ∙ ap (λ moment. arrival_text t (Datagram c.args.b moment c.args.bytes.now)) c.min.ensures)))
     c.write_gathered.ensures.writes c.take_datagram-done.ensures.cause (λ x. c.take_datagram-done.ensures.went x left)
 
-pub returns-clause-serving : goal.returns-clause-serving
-returns-clause-serving g c = ok_from c.take_datagram-done.result c.write_gathered.result _ c.write_gathered.ensures.writes.same c.take_datagram-done.ensures.serving
+pub returns-clause-between : goal.returns-clause-between
+returns-clause-between g c =
+    let written = c.write_gathered.ensures in
+    between_of c.args.site.now.topo.now c.args.site.now.hosted.now g.D.Disk.tells (g.D.Disk.lane_of c.take_datagram-done.new.disk) (seen c.take_datagram-done.new.node) c.write_gathered.new.gathered c.write_gathered.new.page.held c.write_gathered.result
+    (ok_from c.take_datagram-done.result c.write_gathered.result _ written.writes.same c.take_datagram-done.ensures.serving) written.empty written.written
 
 pub returns-clause-keeps : goal.returns-clause-keeps
 returns-clause-keeps g c = record {

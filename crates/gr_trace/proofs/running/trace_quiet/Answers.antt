@@ -7,7 +7,7 @@ use Rattle.gr_model.specs.Arrivals.{quiet, requests_of}
 use Rattle.gr_node.specs.Seen.{seen}
 use Rattle.gr_node.specs.Done.{at_arrival}
 use Rattle.gr_node.proofs.Lasting.{acts_same}
-use Rattle.gr_trace.proofs.Coming.{ok_from, moves_from, cause_from, wrote_came, wrote_unput}
+use Rattle.gr_trace.proofs.Coming.{ok_from, moves_from, cause_from, between_of, wrote_came, wrote_unput}
 use Rattle.gr_trace.proofs.running.trace_quiet.Goals as goal
 
 pub returns-in-Err-clause-wrote : goal.returns-in-Err-clause-wrote
@@ -24,11 +24,14 @@ returns-clause-wrote g c =
     let a = quiet c.args.moment in
     wrote_came t hosted c.brokers.ensures.topology g.P.Post.tells (requests_of (net_of t) hosted (drop c.args.next c.args.steps.now)) a refl (at_arrival hosted (seen c.args.node.now) a) (seen c.take_quiet-done.new.node) c.take_quiet-done.new.gathered c.push_quiet.new.text
     (g.K.Sink.taken c.args.sink.now) (g.K.Sink.taken c.write_gathered.new.sink) (g.P.Post.journal c.args.post.now) (g.P.Post.journal c.write_gathered.new.post) c.take_quiet-done.result c.write_gathered.result
-    (c.in-Ok.ensures t ∙ (ap (λ (p : PageView). p.held ++ arrival_text t (Quiet c.min.result)) c.page.view_is ∙ (ap (λ held. held ++ arrival_text t (Quiet c.min.result)) c.requires.written ∙ ap (λ moment. arrival_text t (Quiet moment)) c.min.ensures)))
+    (c.in-Ok.ensures t ∙ (ap (λ (p : PageView). p.held ++ arrival_text t (Quiet c.min.result)) c.page.view_is ∙ (ap (λ held. held ++ arrival_text t (Quiet c.min.result)) c.requires.between.written ∙ ap (λ moment. arrival_text t (Quiet moment)) c.min.ensures)))
     c.write_gathered.ensures.writes c.take_quiet-done.ensures.cause c.take_quiet-done.ensures.went
 
-pub returns-clause-serving : goal.returns-clause-serving
-returns-clause-serving g c = ok_from c.take_quiet-done.result c.write_gathered.result _ c.write_gathered.ensures.writes.same c.take_quiet-done.ensures.serving
+pub returns-clause-between : goal.returns-clause-between
+returns-clause-between g c =
+    let written = c.write_gathered.ensures in
+    between_of c.args.site.now.topo.now c.args.site.now.hosted.now g.D.Disk.tells (g.D.Disk.lane_of c.take_quiet-done.new.disk) (seen c.take_quiet-done.new.node) c.write_gathered.new.gathered c.write_gathered.new.page.held c.write_gathered.result
+    (ok_from c.take_quiet-done.result c.write_gathered.result _ written.writes.same c.take_quiet-done.ensures.serving) written.empty written.written
 
 pub returns-clause-keeps : goal.returns-clause-keeps
 returns-clause-keeps g c = record {

@@ -64,4 +64,4 @@ returns-in-Memory-clause-traced g c =
     (λ tells. c.in-Err.ensures.journal tells ∙ ap (λ (f : PostFault). g.P.Post.journal c.args.post.now ++ next_entries c.await_next.new.piece (Err f)) c.in-Memory.is) (λ k. refl)
 
 pub returns-in-Failed-clause-serving_at_post : goal.returns-in-Failed-clause-serving_at_post
-returns-in-Failed-clause-serving_at_post g c = λ e. c.requires.serving
+returns-in-Failed-clause-serving_at_post g c = λ e. c.requires.between.serving
