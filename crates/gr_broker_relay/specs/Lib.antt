@@ -1,6 +1,7 @@
 pub mod Branch
 pub mod Held
 pub mod Kept
+pub mod Keeps
 pub mod Told
 pub mod Changes
 pub mod Handed

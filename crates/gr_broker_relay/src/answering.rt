@@ -1,7 +1,7 @@
 //! Curiosity comes from a child: it is answered from what is known, kept, and asked upstream where it is unknown.
 
 ghost use Rattle.std.specs.Prelude.{◌≡◌, ℕ, ◌+◌, ◌<◌, ◌≤◌, true, false, not, [], ◌++◌, length, get_or};
-ghost use Rattle.std.specs.Prelude.{IfOk, OnOk, OnErr};
+ghost use Rattle.std.specs.Prelude.{IfOk, OnOk};
 ghost use Rattle.gr_tick.specs.Stored.{RunsGive, needed};
 ghost use Rattle.gr_curio.specs.Due.{due_of};
 ghost use Rattle.gr_curio.specs.Values.{wanted_at, asked_at};
@@ -14,6 +14,7 @@ ghost use Rattle.gr_model.specs.NetOf.{net_of};
 ghost use Rattle.gr_model.specs.Broker.{Outcome as MachineOutcome, curiosity, know_frames, up_frames};
 ghost use Rattle.gr_broker_relay.specs.Branch.{wantings_below};
 ghost use Rattle.gr_broker_relay.specs.Kept.{IsKept};
+ghost use Rattle.gr_broker_relay.specs.Keeps.{IsChild, KeepsPart, LeavesKept};
 ghost use Rattle.gr_broker_relay.specs.Held.{held_view, shown_net, IsSite};
 ghost use Rattle.gr_broker_relay.specs.Told.{Tells, AddsFrames, IsBlank};
 ghost use Rattle.gr_broker_relay.specs.Answers.{reply_to, last_completed, AreAnswers, HasAnswerRoom};
@@ -55,7 +56,7 @@ pub fn take_curiosity(
     into: &mut Outcome,
 ) -> Result<(), Memory>
     requires site { IsSite site.now }
-    requires child { i < length (children_of site.now.topo.now site.now.publisher site.now.broker) }
+    requires child { IsChild site.now i }
     requires kept { IsKept (net_of site.now.topo.now) site.now.publisher site.now.broker (held_view held.old) }
     requires blank { IsBlank into.old }
     ensures told { let net : Net = shown_net site.now.topo.now held.old in OnOk result ((log : Log) →
@@ -65,9 +66,7 @@ pub fn take_curiosity(
         let o : MachineOutcome = curiosity net site.now.publisher site.now.broker now
         (get_or (net.children site.now.publisher site.now.broker) i 0) i piece.now (held_view held.old) log in
         held_view held.new ≡ o.view) }
-    ensures err { OnErr result (held_view held.new ≡ held_view held.old) }
-    ensures kept { IsKept (net_of site.now.topo.now) site.now.publisher site.now.broker (held_view held.new) }
-    ensures log { held.new.log ≡ held.old.log }
+    ensures part { KeepsPart site.now held.old held.new result }
 {
     let answers = plan_answers(site, held, i, piece, now, &mut into.frames)?;
     reserve_answers(site, held, i, &answers)?;
@@ -86,7 +85,7 @@ fn plan_answers(
     into: &mut Outbox,
 ) -> Result<Answers, Memory>
     requires site { IsSite site.now }
-    requires child { i < length (children_of site.now.topo.now site.now.publisher site.now.broker) }
+    requires child { IsChild site.now i }
     requires kept { IsKept (net_of site.now.topo.now) site.now.publisher site.now.broker (held_view held.now) }
     ensures adds { let net : Net = shown_net site.now.topo.now held.now in OnOk result ((log : Log) →
         let o : MachineOutcome = curiosity net site.now.publisher site.now.broker now
@@ -125,7 +124,7 @@ fn send_answers(
     into: &mut Outbox,
 ) -> Result<(), Memory>
     requires site { IsSite site.now }
-    requires child { i < length (children_of site.now.topo.now site.now.publisher site.now.broker) }
+    requires child { IsChild site.now i }
     ensures { let net : Net = net_of site.now.topo.now in
         let child : ℕ = get_or (net.children site.now.publisher site.now.broker) i 0 in
         OnOk result (AddsFrames (know_frames held.now.joins site.now.broker child site.now.publisher reply
@@ -140,7 +139,7 @@ fn send_answers(
 /// edge to it.
 fn reply_of(site: &Site<'_>, held: &Held, i: usize, piece: &Piece<Q3>) -> Result<Piece<K>, Memory>
     requires site { IsSite site.now }
-    requires child { i < length (children_of site.now.topo.now site.now.publisher site.now.broker) }
+    requires child { IsChild site.now i }
     requires wants { i < length held.now.wants }
     ensures { let net : Net = shown_net site.now.topo.now held.now in IfOk result (λ reply.
         reply ≡ reply_to net site.now.publisher site.now.broker i piece.now (held_view held.now)) }
@@ -156,7 +155,7 @@ fn reply_of(site: &Site<'_>, held: &Held, i: usize, piece: &Piece<Q3>) -> Result
 /// The edge to the child at place `i`.
 fn edge_to<'a>(site: &Site<'a>, i: usize) -> &'a Edge
     requires site { IsSite site.now }
-    requires child { i < length (children_of site.now.topo.now site.now.publisher site.now.broker) }
+    requires child { IsChild site.now i }
     ensures { let t : TopologyView = site.now.topo.now in
         let child : ℕ = get_or (children_of t site.now.publisher site.now.broker) i 0 in
         result.now ≡ wantings_below t site.now.publisher child }
@@ -251,7 +250,7 @@ fn apply_answers(
     answers: &Answers,
 )
     requires site { IsSite site.now }
-    requires child { i < length (children_of site.now.topo.now site.now.publisher site.now.broker) }
+    requires child { IsChild site.now i }
     requires kept { IsKept (net_of site.now.topo.now) site.now.publisher site.now.broker (held_view held.old) }
     requires answers { let net : Net = shown_net site.now.topo.now held.old in
         AreAnswers net site.now.publisher site.now.broker now i piece.now (held_view held.old) answers.now }
@@ -260,8 +259,7 @@ fn apply_answers(
         let o : MachineOutcome = curiosity net site.now.publisher site.now.broker now
         (get_or (net.children site.now.publisher site.now.broker) i 0) i piece.now (held_view held.old) log in
         held_view held.new ≡ o.view }
-    ensures kept { IsKept (net_of site.now.topo.now) site.now.publisher site.now.broker (held_view held.new) }
-    ensures log { held.new.log ≡ held.old.log }
+    ensures part { LeavesKept site.now held.old held.new }
 {
     // Proof only: the runs of all are canonical.
     let _ = held.know.len();

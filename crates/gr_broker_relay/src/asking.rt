@@ -2,7 +2,7 @@
 //! told what to expect.
 
 ghost use Rattle.std.specs.Prelude.{◌≡◌, ℕ, ◌+◌, ◌-◌, ◌*◌, ◌<◌, ◌≤◌, ◌&&◌, ◌||◌, [], ◌∷◌, get_or, true, false, min};
-ghost use Rattle.std.specs.Prelude.{max, length, drop, if◌then◌else◌, IfOk, OnOk, OnErr};
+ghost use Rattle.std.specs.Prelude.{max, length, drop, if◌then◌else◌, IfOk, OnOk};
 ghost use Rattle.gr_tick.specs.declared.TheConstants.{MAX_TICK};
 ghost use Rattle.gr_tick.specs.Runs.{top_of};
 ghost use Rattle.gr_tick.specs.Stored.{within, RunsGive};
@@ -19,6 +19,7 @@ ghost use Rattle.gr_model.specs.NetOf.{net_of};
 ghost use Rattle.gr_model.specs.Broker.{Outcome as MachineOutcome, is_consolidated_by, consolidated, upward, up_frames};
 ghost use Rattle.gr_model.specs.Broker.{noted, kept_view, wake_below, expect, expect_frame, expect_frames, covers};
 ghost use Rattle.gr_broker_relay.specs.Kept.{IsKept};
+ghost use Rattle.gr_broker_relay.specs.Keeps.{KeepsPart, LeavesKept};
 ghost use Rattle.gr_broker_relay.specs.Held.{held_view, shown_net, IsSite};
 ghost use Rattle.gr_broker_relay.specs.Told.{Tells, AddsFrames, IsBlank};
 
@@ -156,8 +157,7 @@ fn note_asked(site: &Site<'_>, held: &mut Held, asked: &Piece<Q3>, now: u64)
           horizon = held.old.horizon;
           joins = held.old.joins;
         }) }
-    ensures kept { IsKept (net_of site.now.topo.now) site.now.publisher site.now.broker (held_view held.new) }
-    ensures log { held.new.log ≡ held.old.log }
+    ensures part { LeavesKept site.now held.old held.new }
 {
     // Proof only: the runs are canonical.
     let _ = held.know.len();
@@ -179,9 +179,7 @@ pub fn wake_below(site: &Site<'_>, held: &mut Held, now: u64) -> Result<Outcome,
     ensures view { let net : Net = shown_net site.now.topo.now held.old in OnOk result ((log : Log) →
         let o : MachineOutcome = wake_below net site.now.publisher site.now.broker now (held_view held.old) log in
         held_view held.new ≡ o.view) }
-    ensures err { OnErr result (held_view held.new ≡ held_view held.old) }
-    ensures kept { IsKept (net_of site.now.topo.now) site.now.publisher site.now.broker (held_view held.new) }
-    ensures log { held.new.log ≡ held.old.log }
+    ensures part { KeepsPart site.now held.old held.new result }
 {
     let wanted = wanted_upto(site, held, wake_end(site, held, now))?;
     let mut told = Outcome::new(site.alloc);
@@ -211,9 +209,7 @@ pub fn take_expect(
     ensures view { let net : Net = shown_net site.now.topo.now held.old in OnOk result ((log : Log) →
         let o : MachineOutcome = expect net site.now.publisher site.now.broker now tick (held_view held.old) log in
         held_view held.new ≡ o.view) }
-    ensures err { OnErr result (held_view held.new ≡ held_view held.old) }
-    ensures kept { IsKept (net_of site.now.topo.now) site.now.publisher site.now.broker (held_view held.new) }
-    ensures log { held.new.log ≡ held.old.log }
+    ensures part { KeepsPart site.now held.old held.new result }
 {
     let wanted = wanted_upto(site, held, expect_end(site, tick))?;
     let asked = asked_upward(site, held, &wanted, now, &mut into.frames)?;

@@ -2,7 +2,7 @@
 
 ghost use Rattle.std.specs.Prelude.{if◌then◌else◌, ◌≡◌, ◌⊎◌, ℕ, ◌+◌, ◌*◌, ◌<◌, ◌≤◌, true, false, not, ◌&&◌};
 ghost use Rattle.std.specs.Prelude.{nat_lt, nat_le, [], ◌++◌, length, get_or, set, slice_index_or, IfOk, OnOk};
-ghost use Rattle.std.specs.Prelude.{◌==◌, ◌≢◌, OnErr, IsTrue};
+ghost use Rattle.std.specs.Prelude.{◌==◌, ◌≢◌, IsTrue};
 ghost use Rattle.std.specs.List.{flat_map};
 ghost use Rattle.std.specs.Option.{option_map};
 ghost use Rattle.gr_tick.specs.declared.TheConstants.{MAX_TICK};
@@ -24,6 +24,7 @@ ghost use Rattle.gr_model.specs.NetOf.{net_of};
 ghost use Rattle.gr_model.specs.Broker.{Outcome as MachineOutcome, is_F, forgotten, max_tick};
 ghost use Rattle.gr_model.specs.Broker.{forward, forward_frames, got_line, know_frames, learn, new_ticks};
 ghost use Rattle.gr_broker_relay.specs.Kept.{IsKept};
+ghost use Rattle.gr_broker_relay.specs.Keeps.{KeepsPart, LeavesKept};
 ghost use Rattle.gr_broker_relay.specs.Held.{held_view, shown_net, IsSite};
 ghost use Rattle.gr_broker_relay.specs.Handed.{got_by, got_in_time, got_late, told_to, lines_to};
 ghost use Rattle.gr_broker_relay.specs.Told.{Tells, Adds, AddsFrames, IsBlank};
@@ -494,8 +495,7 @@ pub fn apply_learning(site: &Site<'_>, held: &mut Held, piece: &Piece<K>, change
     ensures view { (log : Log) → let net : Net = shown_net site.now.topo.now held.old in
         let o : MachineOutcome = learn net site.now.publisher site.now.broker piece.now (held_view held.old) log in
         held_view held.new ≡ o.view }
-    ensures kept { IsKept (net_of site.now.topo.now) site.now.publisher site.now.broker (held_view held.new) }
-    ensures log { held.new.log ≡ held.old.log }
+    ensures part { LeavesKept site.now held.old held.new }
 {
     // Proof only: the runs are canonical.
     let _ = held.know.len();
@@ -695,9 +695,7 @@ pub fn learn(
     ensures view { let net : Net = shown_net site.now.topo.now held.old in OnOk result ((log : Log) →
         let o : MachineOutcome = learn net site.now.publisher site.now.broker piece.now (held_view held.old) log in
         held_view held.new ≡ o.view) }
-    ensures err { OnErr result (held_view held.new ≡ held_view held.old) }
-    ensures kept { IsKept (net_of site.now.topo.now) site.now.publisher site.now.broker (held_view held.new) }
-    ensures log { held.new.log ≡ held.old.log }
+    ensures part { KeepsPart site.now held.old held.new result }
 {
     let changes = plan_learning(site, held, piece, into)?;
     reserve_learning(site, held, piece, &changes)?;

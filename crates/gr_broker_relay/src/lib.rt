@@ -5,8 +5,9 @@
 //! A call looks at a `Site`, where the broker stands in the publisher's tree, and edits a `Held`, what it keeps of that
 //! publisher. Each is one equation with a call of the machine in `gr_model/specs/Broker.antt`: `learn`, `curiosity`,
 //! `wake_below`, `expect` and `expect_frames`. `Tells` and `Adds` in `specs/Told.antt` say what is told and sent,
-//! `held_view` in `specs/Held.antt` what is kept, and `IsKept` in `specs/Kept.antt` what each call needs of that and
-//! leaves so. Nothing here calls a disk: of a log a call leaves all as it was.
+//! `held_view` in `specs/Held.antt` what is kept, `IsKept` in `specs/Kept.antt` what each call needs of that, and
+//! `KeepsPart` in `specs/Keeps.antt` what it leaves of it. Nothing here calls a disk: of a log a call leaves all as it
+//! was.
 //!
 //! | File | What it does | The machine's call: its rule | In `specs` |
 //! |---|---|---|---|

@@ -1,4 +1,4 @@
-use Rattle.std.proofs.Common.{◌≡◌, ◌<◌, true, false, length, sym, ap, ◌∙◌, subst}
+use Rattle.std.proofs.Common.{◌≡◌, ◌<◌, true, false, length, refl, sym, ap, ◌∙◌, subst}
 use Rattle.std.specs.Prelude.{if◌then◌else◌}
 use Rattle.gr_curio.specs.Wants.{runs_of}
 use Rattle.gr_model.specs.Net.{Net, is_host, keeps_horizon, wants_with}
@@ -51,11 +51,11 @@ below_host c =
 pub returns-then-site-clause-view : goal.returns-then-site-clause-view
 returns-then-site-clause-view c = (at_host c).view
 
-pub returns-then-site-clause-kept : goal.returns-then-site-clause-kept
-returns-then-site-clause-kept c = plain_kept c.args.site.now c.args.held.now _ (at_host c).kept
+pub returns-then-site-clause-part : goal.returns-then-site-clause-part
+returns-then-site-clause-part c = record { kept = plain_kept c.args.site.now c.args.held.now _ (at_host c).kept; elsewhere = refl }
 
 pub returns-clause-view : goal.returns-clause-view
 returns-clause-view c = (below_host c).view
 
-pub returns-clause-kept : goal.returns-clause-kept
-returns-clause-kept c = plain_kept c.args.site.now c.args.held.now _ (below_host c).kept
+pub returns-clause-part : goal.returns-clause-part
+returns-clause-part c = record { kept = plain_kept c.args.site.now c.args.held.now _ (below_host c).kept; elsewhere = refl }

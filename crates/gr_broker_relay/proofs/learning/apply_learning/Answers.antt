@@ -22,11 +22,12 @@ returns-then-site-clause-view c = λ log.
     host_view (shown_net c.args.site.now.topo.now c.args.held.now) c.args.site.now.publisher c.args.site.now.broker c.args.piece.now (held_view c.args.held.now) c.args.changes.now (learned c.args.held.now.know.runs c.args.piece.now) c.take_in.new.know.runs (runs_of c.quench.new.wants) c.move_to.new.self (edits_there c)
     c.args.held.now.asks.runs (host_there c.args.site.now true c.requires.site c.if-site.true) refl log
 
-pub returns-then-site-clause-kept : goal.returns-then-site-clause-kept
-returns-then-site-clause-kept c =
-    kept_plain (net_of c.args.site.now.topo.now) (wants_with (net_of c.args.site.now.topo.now) c.args.held.now.joins) c.args.site.now.publisher c.args.site.now.broker _
+pub returns-then-site-clause-part : goal.returns-then-site-clause-part
+returns-then-site-clause-part c =
+    let kept = kept_plain (net_of c.args.site.now.topo.now) (wants_with (net_of c.args.site.now.topo.now) c.args.held.now.joins) c.args.site.now.publisher c.args.site.now.broker _
     (host_kept (shown_net c.args.site.now.topo.now c.args.held.now) c.args.site.now.publisher c.args.site.now.broker c.args.piece.now (held_view c.args.held.now) c.args.changes.now (learned c.args.held.now.know.runs c.args.piece.now) c.take_in.new.know.runs (runs_of c.quench.new.wants) c.move_to.new.self (edits_there c)
-    c.args.held.now.asks.runs (host_there c.args.site.now true c.requires.site c.if-site.true) refl)
+    c.args.held.now.asks.runs (host_there c.args.site.now true c.requires.site c.if-site.true) refl) in
+    record { kept = kept; elsewhere = refl }
 
 edits_after : (c : goal.After-forget_below) → Edits (shown_net c.args.site.now.topo.now c.args.held.now) c.args.site.now.publisher c.args.site.now.broker c.args.piece.now (held_view c.args.held.now) c.args.changes.now (learned c.args.held.now.know.runs c.args.piece.now) c.take_in.new.know.runs (runs_of c.quench.new.wants) c.move_to.new.self
 edits_after c =
@@ -45,15 +46,16 @@ returns-clause-view c = λ log.
     (c.forget_below.ensures.forgotten ∙ ap (λ x. forgotten net.cache (if keeps_horizon net p b then x else max_tick) c.take_in.new.know.runs) c.horizon.ensures.horizon)
     c.forget_below.ensures.keeps_final c.forget_below.ensures.canonical log
 
-pub returns-clause-kept : goal.returns-clause-kept
-returns-clause-kept c =
+pub returns-clause-part : goal.returns-clause-part
+returns-clause-part c =
     let net = shown_net c.args.site.now.topo.now c.args.held.now in
     let p = c.args.site.now.publisher in
     let b = c.args.site.now.broker in
     let below : is_host (net_of c.args.site.now.topo.now) c.args.site.now.publisher c.args.site.now.broker ≡ false = host_there c.args.site.now false c.requires.site c.if-site.false in
-    kept_plain (net_of c.args.site.now.topo.now) (wants_with (net_of c.args.site.now.topo.now) c.args.held.now.joins) p b _
+    let kept = kept_plain (net_of c.args.site.now.topo.now) (wants_with (net_of c.args.site.now.topo.now) c.args.held.now.joins) p b _
     (below_kept net p b c.args.piece.now (held_view c.args.held.now) c.args.changes.now (learned c.args.held.now.know.runs c.args.piece.now) c.take_in.new.know.runs (runs_of c.quench.new.wants) c.move_to.new.self (edits_after c)
     below (goes_below net p b ((t : ℕ) → clash_K (known_at c.args.held.now.know.runs t) (known_at c.args.piece.now t) ≡ false) below c.requires.goes) c.drop_final.new.asks.runs c.drop_each.new.asks.runs c.forget_below.new.know.runs
     c.len-3.ensures.canonical c.drop_final.ensures.dropped c.drop_each.ensures.dropped
     (c.forget_below.ensures.forgotten ∙ ap (λ x. forgotten net.cache (if keeps_horizon net p b then x else max_tick) c.take_in.new.know.runs) c.horizon.ensures.horizon)
-    c.forget_below.ensures.keeps_final c.forget_below.ensures.canonical)
+    c.forget_below.ensures.keeps_final c.forget_below.ensures.canonical) in
+    record { kept = kept; elsewhere = refl }
