@@ -9,8 +9,8 @@ use Rattle.gr_publog.specs.declared.record.Record.{Record}
 use Rattle.gr_publog.specs.declared.record.LogFault.{LogFault}
 use Rattle.gr_publog.specs.declared.record.LogFault.TheVariants as fault
 use Rattle.gr_publog.specs.Steps.{GoesOn}
-use Rattle.gr_publog.specs.Views.{LogView, Lanes, lanes_at, AwayFrom, number_of, failed, other, Stands, IsReady}
-use Rattle.gr_publog.specs.Calls.{Appends, Tally, Causes, Leaves}
+use Rattle.gr_publog.specs.Views.{LogView, Lanes, lanes_at, number_of, failed, other, Stands, IsReady}
+use Rattle.gr_publog.specs.Calls.{Appends, Tally, Leaves, LeavesDisk}
 use Rattle.gr_publog.proofs.Passing.{same_fault}
 use Rattle.gr_publog.proofs.Onward.{goes_on_same, goes_on_then}
 use Rattle.gr_pubend.specs.Cuts.{Cuts}
@@ -53,15 +53,19 @@ numbered : (lanes : ℕ → Lane) (lane : ℕ) (second : Bool) → lanes (number
 numbered lanes lane false = refl
 numbered lanes lane true = refl
 
-pub causes_either : {T : Type 0} (faultless : Type 0) (lanes : ℕ → Lane) (lane : ℕ) (second : Bool) (f f' : ℕ) (result : Result T LogFault) → Causes faultless (has_stopped (lanes (number_of lane second)).stop) f f' result
-    → Causes faultless (either_stopped (lanes_at lanes lane)) f f' result
-causes_either faultless lanes lane second f f' result c = record {
-  why = λ e. ⊎_elim (λ s. inl (either s)) (λ r. inr r) (c.why e);
-  by_stop = λ none e. either (c.by_stop none e);
+pub stopped_either : {S T : Type 0} {tells : Type 0} {faultless : S → Type 0} {lane_of : S → ℕ → Lane} {faults stops : S → ℕ} {lane : ℕ} {a b : S} {result : Result T LogFault} (second : Bool)
+    → LeavesDisk tells faultless lane_of faults stops lane (has_stopped (lane_of b (number_of lane second)).stop) a b result
+    → LeavesDisk tells faultless lane_of faults stops lane (either_stopped (lanes_at (lane_of b) lane)) a b result
+stopped_either {S} {T} {tells} {faultless} {lane_of} {faults} {stops} {lane} {a} {b} {result} second k = record {
+  tally = k.tally;
+  faultless_stays = k.faultless_stays;
+  causes = λ t. let j = k.causes t in record { why = λ e. ⊎_elim (λ s. inl (either s)) (λ r. inr r) (j.why e); by_stop = λ none e. either (j.by_stop none e) };
+  idle = k.idle;
+  others = k.others;
 }
   where
-    either : has_stopped (lanes (number_of lane second)).stop ≡ true → either_stopped (lanes_at lanes lane) ≡ true
-    either s = stops_either second (lanes lane) (lanes (suc lane)) (ap (λ (l : Lane). has_stopped l.stop) (sym (numbered lanes lane second)) ∙ s)
+    either : has_stopped (lane_of b (number_of lane second)).stop ≡ true → either_stopped (lanes_at (lane_of b) lane) ≡ true
+    either s = stops_either second (lane_of b lane) (lane_of b (suc lane)) (ap (λ (l : Lane). has_stopped l.stop) (sym (numbered (lane_of b) lane second)) ∙ s)
 
 -- what was called on its lanes stays called
 both_of : (second : Bool) (before after : Lanes) → GoesOn (if second then before.second else before.first) (if second then after.second else after.first)
@@ -94,57 +98,55 @@ ready_after l l' next lanes lanes' (Err (fault.Damaged at)) ready k lane broken 
 -- of one of the two lanes by its number, and of what the log then is
 pub log_uses : {S T : Type 0} {tells : Type 0} {faultless : S → Type 0} {lane_of : S → ℕ → Lane} {faults stops : S → ℕ} (a b : S) (l l' next : LogView) (second : Bool) (result : Result T LogFault)
     → (tells → IsReady l (lanes_at (lane_of a) l.lane)) → Leaves l next (failed l) l' result → next.lane ≡ l.lane → next.broken ≡ l.broken
-    → Tally (faults a) (stops a) (faults b) (stops b) result → StaysFaultless (faultless a) (faultless b) (faults a) (faults b) → (IsErrOf result fault.Reopen → b ≡ a)
-    → (tells → Causes (faultless a) (has_stopped (lane_of b (number_of l.lane second)).stop) (faults a) (faults b) result)
-    → (tells → (n : ℕ) → AwayFrom l.lane n → lane_of b n ≡ lane_of a n)
+    → LeavesDisk tells faultless lane_of faults stops l.lane (has_stopped (lane_of b (number_of l.lane second)).stop) a b result
     → (tells → GoesOnBoth (lanes_at (lane_of a) l.lane) (lanes_at (lane_of b) l.lane))
     → (tells → l.broken ≡ false → OnOk result (Stands (lanes_at (lane_of b) l.lane) next))
     → (tells → IsErrOf result fault.Memory → lanes_at (lane_of b) l.lane ≡ lanes_at (lane_of a) l.lane)
     → UsesLog tells faultless lane_of faults stops a b l l' result
-log_uses {S} {T} {tells} {faultless} {lane_of} {faults} {stops} a b l l' next second result ready left lane broken tally faultless_stays idle causes others on stands untouched = record {
+log_uses {S} {T} {tells} {faultless} {lane_of} {faults} {stops} a b l l' next second result ready left lane broken disk on stands untouched = record {
   lane = record {
-    tally = tally;
-    faultless_stays = faultless_stays;
-    idle = idle;
-    causes = λ t. causes_either (faultless a) (lane_of b) l.lane second (faults a) (faults b) result (causes t);
-    others = others;
+    disk = stopped_either second disk;
     goes_on = on;
   };
-  stands = λ t. ready_after l l' next (lane_of a) (lane_of b) result (ready t) left lane broken (stands t) (untouched t) (λ h. ap (λ (d : S). lanes_at (lane_of d) l.lane) (idle h));
+  stands = λ t. ready_after l l' next (lane_of a) (lane_of b) result (ready t) left lane broken (stands t) (untouched t) (λ h. ap (λ (d : S). lanes_at (lane_of d) l.lane) (disk.idle h));
 }
 
 module _ {S T U : Type 0} {tells : Type 0} {faultless : S → Type 0} {lane_of : S → ℕ → Lane} {faults stops : S → ℕ} {lane : ℕ} where
   -- another answer, or the same fault
   pub uses_ok_as : {a b : S} (x : T) (y : U) → UsesLane {T = T} tells faultless lane_of faults stops lane a b (Ok x) → UsesLane {T = U} tells faultless lane_of faults stops lane a b (Ok y)
   uses_ok_as x y k = record {
-    tally = record {
-      faults_never_fall = k.tally.faults_never_fall;
-      stops_never_fall = k.tally.stops_never_fall;
-      rose = λ h. absurd (cc h);
-      same = λ u. k.tally.same tt;
+    disk = record {
+      tally = record {
+        faults_never_fall = k.disk.tally.faults_never_fall;
+        stops_never_fall = k.disk.tally.stops_never_fall;
+        rose = λ h. absurd (cc h);
+        same = λ u. k.disk.tally.same tt;
+      };
+      faultless_stays = k.disk.faultless_stays;
+      causes = λ t. record { why = λ h. absurd (cc h); by_stop = λ none h. absurd (cc h) };
+      idle = λ h. absurd (cc h);
+      others = k.disk.others;
     };
-    faultless_stays = k.faultless_stays;
-    idle = λ h. absurd (cc h);
-    causes = λ t. record { why = λ h. absurd (cc h); by_stop = λ none h. absurd (cc h) };
-    others = k.others;
     goes_on = k.goes_on;
   }
 
   pub uses_err_as : {a b : S} (e : LogFault) → UsesLane {T = T} tells faultless lane_of faults stops lane a b (Err e) → UsesLane {T = U} tells faultless lane_of faults stops lane a b (Err e)
   uses_err_as e k = record {
-    tally = record {
-      faults_never_fall = k.tally.faults_never_fall;
-      stops_never_fall = k.tally.stops_never_fall;
-      rose = λ h. k.tally.rose (same_fault {T = U} e fault.Disk h);
-      same = k.tally.same;
+    disk = record {
+      tally = record {
+        faults_never_fall = k.disk.tally.faults_never_fall;
+        stops_never_fall = k.disk.tally.stops_never_fall;
+        rose = λ h. k.disk.tally.rose (same_fault {T = U} e fault.Disk h);
+        same = k.disk.tally.same;
+      };
+      faultless_stays = k.disk.faultless_stays;
+      causes = λ t. let j = k.disk.causes t in record {
+        why = λ h. j.why (same_fault {T = U} e fault.Disk h);
+        by_stop = λ none h. j.by_stop none (same_fault {T = U} e fault.Disk h);
+      };
+      idle = λ h. k.disk.idle (same_fault {T = U} e fault.Reopen h);
+      others = k.disk.others;
     };
-    faultless_stays = k.faultless_stays;
-    idle = λ h. k.idle (same_fault {T = U} e fault.Reopen h);
-    causes = λ t. let j = k.causes t in record {
-      why = λ h. j.why (same_fault {T = U} e fault.Disk h);
-      by_stop = λ none h. j.by_stop none (same_fault {T = U} e fault.Disk h);
-    };
-    others = k.others;
     goes_on = k.goes_on;
   }
 
@@ -152,15 +154,19 @@ module _ {S T U : Type 0} {tells : Type 0} {faultless : S → Type 0} {lane_of :
   pub uses_then : {a b c : S} (x : T) (result : Result U LogFault) → UsesLane {T = T} tells faultless lane_of faults stops lane a b (Ok x) → UsesLane {T = U} tells faultless lane_of faults stops lane b c result → (IsErrOf result fault.Reopen → c ≡ a) →
       UsesLane {T = U} tells faultless lane_of faults stops lane a c result
   uses_then {a} {b} {c} x result one two idle =
-      let same = one.tally.same tt in
+      let first = one.disk in
+      let next = two.disk in
+      let same = first.tally.same tt in
       record {
-        tally = subst (λ (n : ℕ). Tally n (stops a) (faults c) (stops c) result) same.0 (subst (λ (n : ℕ). Tally (faults b) n (faults c) (stops c) result) same.1 two.tally);
-        faultless_stays = faultless_on (faultless a) (faultless b) (faultless c) (faults a) (faults b) (faults c) one.faultless_stays two.faultless_stays;
-        idle = idle;
-        causes = λ t. let k = two.causes t in record {
-          why = subst (λ (n : ℕ). IsErrOf result fault.Disk → (either_stopped (lanes_at (lane_of c) lane) ≡ true) ⊎ Rose n (faults c)) same.0 k.why;
-          by_stop = λ none. k.by_stop (one.faultless_stays.stays none);
+        disk = record {
+          tally = subst (λ (n : ℕ). Tally n (stops a) (faults c) (stops c) result) same.0 (subst (λ (n : ℕ). Tally (faults b) n (faults c) (stops c) result) same.1 next.tally);
+          faultless_stays = faultless_on (faultless a) (faultless b) (faultless c) (faults a) (faults b) (faults c) first.faultless_stays next.faultless_stays;
+          causes = λ t. let k = next.causes t in record {
+            why = subst (λ (n : ℕ). IsErrOf result fault.Disk → (either_stopped (lanes_at (lane_of c) lane) ≡ true) ⊎ Rose n (faults c)) same.0 k.why;
+            by_stop = λ none. k.by_stop (first.faultless_stays.stays none);
+          };
+          idle = idle;
+          others = λ t n other. next.others t n other ∙ first.others t n other;
         };
-        others = λ t n other. two.others t n other ∙ one.others t n other;
         goes_on = λ t. both_then (lanes_at (lane_of a) lane) (lanes_at (lane_of b) lane) (lanes_at (lane_of c) lane) (one.goes_on t) (two.goes_on t);
       }

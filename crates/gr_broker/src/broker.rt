@@ -21,7 +21,7 @@ ghost use Rattle.gr_broker.specs.Hosted.{publish_at, publish_logs_at, after_publ
 ghost use Rattle.gr_broker.specs.Hosted.{wake_at, mark_logs_at, cut_at, after_mark, after_wake, AppendsAt, WakesAt};
 ghost use Rattle.gr_broker.specs.Hosted.{WakeLeaves};
 ghost use Rattle.gr_broker.specs.Receipt.{receipt, after_receipt, Answers};
-ghost use Rattle.gr_broker.specs.Keeps.{UsesLane};
+ghost use Rattle.gr_broker.specs.Keeps.{UsesLaneOf};
 ghost use Rattle.gr_broker.specs.Opened.{StartsOver, OpensLanes, LosesNothing, IsDamagedAt};
 
 use crate::joining::join_in;
@@ -210,8 +210,7 @@ impl Broker {
         ensures reopen { IsErrOf result BrokerFault.Reopen
             ↔ ((is_broken (log_in self.old p) ≡ true) × IsSome (publish_logs_at self.old p now number event.now)) }
         ensures untouched { publish_logs_at self.old p now number event.now ≡ None → disk.new ≡ disk.old }
-        ensures uses { let answer = log_answer result in
-            UsesLane D.tells D.faultless D.lane_of D.faults D.stops (log_lane p) disk.old disk.new answer }
+        ensures uses { UsesLaneOf D.tells D.faultless D.lane_of D.faults D.stops p disk.old disk.new result }
         // so that the next call may be made
         ensures stands { D.tells → LogsStand (D.lane_of disk.new) self.new }
     {
@@ -275,8 +274,7 @@ impl Broker {
         ensures reopen { IsErrOf result BrokerFault.Reopen
             ↔ ((is_broken (log_in self.old p) ≡ true) × IsSome (join_logs_at self.old p s now)) }
         ensures untouched { join_logs_at self.old p s now ≡ None → disk.new ≡ disk.old }
-        ensures uses { let answer = log_answer result in
-            UsesLane D.tells D.faultless D.lane_of D.faults D.stops (log_lane p) disk.old disk.new answer }
+        ensures uses { UsesLaneOf D.tells D.faultless D.lane_of D.faults D.stops p disk.old disk.new result }
         // so that the next call may be made
         ensures stands { D.tells → LogsStand (D.lane_of disk.new) self.new }
     {
@@ -361,8 +359,7 @@ impl Broker {
         ensures below { log_in self.old p ≡ None → disk.new ≡ disk.old }
         // A log that the disk has failed is not written to any more
         ensures closed { is_broken (log_in self.old p) ≡ true → disk.new ≡ disk.old }
-        ensures uses { let answer = log_answer result in
-            UsesLane D.tells D.faultless D.lane_of D.faults D.stops (log_lane p) disk.old disk.new answer }
+        ensures uses { UsesLaneOf D.tells D.faultless D.lane_of D.faults D.stops p disk.old disk.new result }
         ensures stands { D.tells → LogsStand (D.lane_of disk.new) self.new }
     {
         let seat = Seat {

@@ -7,7 +7,7 @@ ghost use Rattle.gr_tick.specs.declared.TheConstants.{MAX_TICK};
 ghost use Rattle.gr_curio.specs.Wants.{runs_of};
 ghost use Rattle.gr_publog.specs.State.{may_follow};
 ghost use Rattle.gr_publog.specs.Views.{LogView, appended, failed, lanes_at};
-ghost use Rattle.gr_publog.specs.Calls.{Appends, Leaves, appended_if};
+ghost use Rattle.gr_publog.specs.Calls.{Appends, ReopensBroken, Leaves, appended_if};
 ghost use Rattle.gr_pubend.specs.Log.{Log as MachineLog, said};
 ghost use Rattle.gr_pubend.specs.Answers.{quieted, publish_logs, quiet_logs, IsPlanned, IsPlannedMark};
 ghost use Rattle.gr_pubend.specs.Cuts.{Cuts, cut_view, cut_if};
@@ -17,12 +17,13 @@ ghost use Rattle.gr_model.specs.NetOf.{net_of};
 ghost use Rattle.gr_model.specs.Broker.{Outcome as MachineOutcome, learn, publish, publish_by, marking};
 ghost use Rattle.gr_model.specs.Broker.{marking_by, wake_host};
 ghost use Rattle.gr_broker_relay.specs.Kept.{IsKept};
+ghost use Rattle.gr_broker_relay.specs.Keeps.{KeepsPart};
 ghost use Rattle.gr_broker_relay.specs.Held.{held_view, shown_net, IsSite};
 ghost use Rattle.gr_broker_relay.specs.Told.{Tells, Adds, AddsFrames, IsBlank};
 ghost use Rattle.gr_broker_relay.specs.Cuts.{tick_cut};
 ghost use Rattle.gr_broker.specs.Hosted.{Wakes, WakeLeaves};
 ghost use Rattle.gr_broker.specs.Host.{host_with, tick_marked, mark_lines, cut_lines, expected_frames};
-ghost use Rattle.gr_broker.specs.Keeps.{IsAtHost, KeepsPart, IsReadyOn, UsesLog};
+ghost use Rattle.gr_broker.specs.Keeps.{IsAtHost, IsReadyOn, UsesLog};
 
 use gr_broker_relay::{
     Held, Memory, Outcome, Site, apply_learning, cut_due, expect_children, plan_learning,
@@ -124,7 +125,7 @@ fn log_event<D: Disk>(
     ensures lane { let l = log.old in let before = lanes_at (D.lane_of disk.old) l.lane in
         let after = lanes_at (D.lane_of disk.new) l.lane in
         D.tells → Appends l (Some (Record.Event tick number event.now)) before after result }
-    ensures reopen { IsErrOf result LogFault.Reopen ↔ (log.old.broken ≡ true) }
+    ensures reopen { ReopensBroken log.old result }
     ensures uses { UsesLog D.tells D.faultless D.lane_of D.faults D.stops disk.old disk.new log.old log.new result }
 {
     if log.is_broken() {
@@ -315,7 +316,7 @@ fn log_mark<D: Disk>(
     ensures log { Leaves log.old (appended (Record.Mark tick) log.old) (failed log.old) log.new result }
     ensures lane { let l = log.old in let before = lanes_at (D.lane_of disk.old) l.lane in
         D.tells → Appends l (Some (Record.Mark tick)) before (lanes_at (D.lane_of disk.new) l.lane) result }
-    ensures reopen { IsErrOf result LogFault.Reopen ↔ (log.old.broken ≡ true) }
+    ensures reopen { ReopensBroken log.old result }
     ensures uses { UsesLog D.tells D.faultless D.lane_of D.faults D.stops disk.old disk.new log.old log.new result }
 {
     if log.is_broken() {
@@ -424,7 +425,7 @@ fn cut_upto<D: Disk>(
     ensures lane { let l = log.old in let before = lanes_at (D.lane_of disk.old) l.lane in
         let reclaim = site.now.topo.now.settings.reclaim in
         D.tells → Cuts l (Some tick) reclaim before (lanes_at (D.lane_of disk.new) l.lane) result }
-    ensures reopen { IsErrOf result LogFault.Reopen ↔ (log.old.broken ≡ true) }
+    ensures reopen { ReopensBroken log.old result }
     ensures uses { UsesLog D.tells D.faultless D.lane_of D.faults D.stops disk.old disk.new log.old log.new result }
 {
     if log.is_broken() {

@@ -4,7 +4,7 @@ ghost use Rattle.std.specs.Prelude.{◌≡◌, ◌↔◌, ℕ, ◌<◌, ◌≤�
 ghost use Rattle.std.specs.Prelude.{is_some, OnOk, OnErr, IsErrOf};
 ghost use Rattle.gr_tick.specs.declared.TheConstants.{MAX_TICK};
 ghost use Rattle.gr_publog.specs.Views.{LogView, appended, failed, lanes_at, IsReady};
-ghost use Rattle.gr_publog.specs.Calls.{Appends, Leaves, appended_if};
+ghost use Rattle.gr_publog.specs.Calls.{Appends, ReopensBroken, Leaves, appended_if};
 ghost use Rattle.gr_pubend.specs.Log.{said};
 ghost use Rattle.gr_pubend.specs.Answers.{joined_at, join_of, join_logs, IsPlannedJoin};
 ghost use Rattle.gr_topo.specs.Topology.{late_of};
@@ -13,6 +13,7 @@ ghost use Rattle.gr_model.specs.NetOf.{net_of};
 ghost use Rattle.gr_model.specs.Broker.{Outcome as MachineOutcome};
 ghost use Rattle.gr_model.specs.World.{blank_view};
 ghost use Rattle.gr_broker_relay.specs.Kept.{IsKept};
+ghost use Rattle.gr_broker_relay.specs.Keeps.{KeepsPart};
 ghost use Rattle.gr_broker_relay.specs.Held.{held_view, IsSeat};
 ghost use Rattle.gr_broker_relay.specs.Told.{Tells, IsBlank};
 ghost use Rattle.gr_broker.specs.Lanes.{log_lane};
@@ -20,7 +21,7 @@ ghost use Rattle.gr_broker.specs.Seen.{log_in, log_said, with_logged, with_faile
 ghost use Rattle.gr_broker.specs.Seen.{logs_of, broker_at};
 ghost use Rattle.gr_broker.specs.Of.{HoldJoins};
 ghost use Rattle.gr_broker.specs.Hosted.{join_with, join_by, join_at, join_logs_at, after_join, AppendsAt};
-ghost use Rattle.gr_broker.specs.Keeps.{IsAtHost, KeepsPart, IsReadyOn, UsesLane, UsesLog};
+ghost use Rattle.gr_broker.specs.Keeps.{IsAtHost, IsReadyOn, UsesLane, UsesLog};
 
 use crate::hosting::{log_and_learn, tell};
 use gr_broker_relay::{Held, Outcome, Seat, Site, site_at};
@@ -60,7 +61,7 @@ fn log_join<D: Disk>(
     ensures log { Leaves log.old (appended (Record.Join tick s) log.old) (failed log.old) log.new result }
     ensures lane { let l = log.old in let before = lanes_at (D.lane_of disk.old) l.lane in
         D.tells → Appends l (Some (Record.Join tick s)) before (lanes_at (D.lane_of disk.new) l.lane) result }
-    ensures reopen { IsErrOf result LogFault.Reopen ↔ (log.old.broken ≡ true) }
+    ensures reopen { ReopensBroken log.old result }
     ensures uses { UsesLog D.tells D.faultless D.lane_of D.faults D.stops disk.old disk.new log.old log.new result }
 {
     if log.is_broken() {

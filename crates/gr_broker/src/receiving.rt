@@ -13,6 +13,7 @@ ghost use Rattle.gr_model.specs.World.{blank_view};
 ghost use Rattle.gr_model.specs.Net.{is_host, is_late, all_late};
 ghost use Rattle.gr_model.specs.Arrivals.{fits_broker, joins_fit};
 ghost use Rattle.gr_broker_relay.specs.Kept.{IsKept};
+ghost use Rattle.gr_broker_relay.specs.Keeps.{KeepsPart};
 ghost use Rattle.gr_broker_relay.specs.Held.{held_view, IsSeat, IsSite};
 ghost use Rattle.gr_broker_relay.specs.Told.{IsBlank};
 ghost use Rattle.gr_broker.specs.Seen.{logs_of, broker_at};
@@ -115,9 +116,7 @@ fn take_knowledge(
     ensures view { let v : View = held_view held.old in
         let r = receipt_of_piece (net_of site.now.topo.now) site.now.publisher site.now.broker v piece.now joins.now in
         OnOk result (held_view held.new ≡ view_after r v) }
-    ensures err { OnErr result (held_view held.new ≡ held_view held.old) }
-    ensures kept { IsKept (net_of site.now.topo.now) site.now.publisher site.now.broker (held_view held.new) }
-    ensures log { held.new.log ≡ held.old.log }
+    ensures part { KeepsPart site.now held.old held.new result }
 {
     // Proof only: the runs are canonical.
     let _ = held.know.len();
@@ -162,9 +161,7 @@ pub(crate) fn take_frame(
         IfOk result (λ dropped. AnswersInto into.new dropped r) }
     ensures view { let r = receipt_of_fit (net_of site.now.topo.now) now (held_view held.old) frame.now in
         OnOk result (held_view held.new ≡ view_after r (held_view held.old)) }
-    ensures err { OnErr result (held_view held.new ≡ held_view held.old) }
-    ensures kept { IsKept (net_of site.now.topo.now) site.now.publisher site.now.broker (held_view held.new) }
-    ensures log { held.new.log ≡ held.old.log }
+    ensures part { KeepsPart site.now held.old held.new result }
 {
     match &frame.body {
         Body::Knowledge { piece, joins } => {

@@ -18,7 +18,7 @@ ghost use Rattle.gr_broker.specs.Parts.{part_of, part_wake, part_mark_logs, part
 ghost use Rattle.gr_broker.specs.Parts.{part_failed};
 ghost use Rattle.gr_broker.specs.Hosted.{wake_at, mark_logs_at, cut_at, after_mark, after_wake, Wakes, WakesAt};
 ghost use Rattle.gr_broker.specs.Hosted.{WakeLeaves};
-ghost use Rattle.gr_broker.specs.Keeps.{IsAtHost, UsesLane};
+ghost use Rattle.gr_broker.specs.Keeps.{IsAtHost, UsesLane, UsesLaneOf};
 
 use crate::hosting::wake_host;
 use crate::outcome::BrokerFault;
@@ -178,8 +178,7 @@ pub(crate) fn wake<D: Disk>(
         × (IsSome (mark_logs_at seat.now.topo.now b p now) ⊎ IsSome (cut_at seat.now.topo.now b p now))) }
     ensures below { let b = broker_at seat.now held.old.items in log_in b p ≡ None → disk.new ≡ disk.old }
     ensures closed { let b = broker_at seat.now held.old.items in is_broken (log_in b p) ≡ true → disk.new ≡ disk.old }
-    ensures uses { let answer = log_answer result in
-        UsesLane D.tells D.faultless D.lane_of D.faults D.stops (log_lane p) disk.old disk.new answer }
+    ensures uses { UsesLaneOf D.tells D.faultless D.lane_of D.faults D.stops p disk.old disk.new result }
     ensures stands { D.tells → LogsStand (D.lane_of disk.new) (broker_at seat.now held.new.items) }
 {
     let site = site_at(seat, p);

@@ -31,7 +31,7 @@ returns-in-Ok-cut_log-clause-uses g c =
     let reclaim = c.settings.result.reclaim in
     let stays = cut_stays reclaim c.args.tick l in
     let u = log_uses c.args.disk.now c.cut_log.new.disk l c.cut_log.new.log (cut_view reclaim c.args.tick l) (if cut_reclaims l reclaim then not l.second else l.second) (Ok c.in-Ok-cut_log.field-0)
-    c.requires.stands k.log stays.0 stays.1 k.tally k.faultless k.idle k.causes k.others
+    c.requires.stands k.log stays.0 stays.1 k.disk
     (λ t. cuts_both l (Some c.args.tick) reclaim _ _ _ (k.lanes t)) (λ t. cuts_stand l reclaim _ _ _ (Some c.args.tick) (k.lanes t) (c.requires.stands t)) (λ t. cuts_untouched l reclaim _ _ _ (Some c.args.tick) (k.lanes t)) in
     record { lane = uses_ok_as c.in-Ok-cut_log.field-0 tt u.lane; stands = u.stands }
 
@@ -42,6 +42,6 @@ returns-in-Err-cut_log-clause-uses g c =
     let reclaim = c.settings.result.reclaim in
     let stays = cut_stays reclaim c.args.tick l in
     let u = log_uses c.args.disk.now c.cut_log.new.disk l c.cut_log.new.log (cut_view reclaim c.args.tick l) (if cut_reclaims l reclaim then not l.second else l.second) (Err c.in-Err-cut_log.fault)
-    c.requires.stands k.log stays.0 stays.1 k.tally k.faultless k.idle k.causes k.others
+    c.requires.stands k.log stays.0 stays.1 k.disk
     (λ t. cuts_both l (Some c.args.tick) reclaim _ _ _ (k.lanes t)) (λ t. cuts_stand l reclaim _ _ _ (Some c.args.tick) (k.lanes t) (c.requires.stands t)) (λ t. cuts_untouched l reclaim _ _ _ (Some c.args.tick) (k.lanes t)) in
     record { lane = uses_err_as c.in-Err-cut_log.fault u.lane; stands = u.stands }

@@ -15,12 +15,12 @@ pub returns-in-Ok-append-clause-uses : goal.returns-in-Ok-append-clause-uses
 returns-in-Ok-append-clause-uses g c =
     let l = c.args.log.now in
     let k = c.in-Ok-append.ensures in
-    log_uses c.args.disk.now c.append.new.disk l c.append.new.self (appended c.args.entry.now l) l.second (Ok c.in-Ok-append.field-0) c.requires.stands k.log refl refl k.tally k.faultless k.idle k.causes k.others
+    log_uses c.args.disk.now c.append.new.disk l c.append.new.self (appended c.args.entry.now l) l.second (Ok c.in-Ok-append.field-0) c.requires.stands k.log refl refl k.disk
     (λ t. appends_both l _ _ _ _ (k.lanes t)) (λ t. (k.lanes t).stands) (λ t. (k.lanes t).untouched)
 
 pub returns-in-Err-append-clause-uses : goal.returns-in-Err-append-clause-uses
 returns-in-Err-append-clause-uses g c =
     let l = c.args.log.now in
     let k = c.in-Err-append.ensures in
-    log_uses c.args.disk.now c.append.new.disk l c.append.new.self (appended c.args.entry.now l) l.second (Err c.in-Err-append.fault) c.requires.stands k.log refl refl k.tally k.faultless k.idle k.causes k.others
+    log_uses c.args.disk.now c.append.new.disk l c.append.new.self (appended c.args.entry.now l) l.second (Err c.in-Err-append.fault) c.requires.stands k.log refl refl k.disk
     (λ t. appends_both l _ _ _ _ (k.lanes t)) (λ t. (k.lanes t).stands) (λ t. (k.lanes t).untouched)

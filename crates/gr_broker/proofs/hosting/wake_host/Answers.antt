@@ -96,7 +96,7 @@ returns-in-Err-cut-clause-uses g c =
           (uses_err_as c.in-Err-cut.fault (subst (λ (n : ℕ). UsesLane {T = Unit {0}} g.D.Disk.tells g.D.Disk.faultless g.D.Disk.lane_of g.D.Disk.faults g.D.Disk.stops n c.mark.new.disk c.cut.new.disk (Err c.in-Err-cut.fault)) (same_lane (shown_net c.args.site.now.topo.now c.args.held.now) c.args.site.now.publisher c.args.site.now.broker c.args.now (held_view c.args.held.now) (held_view c.mark.new.held) c.args.log.now c.mark.new.log m.log.ok m.view) k.uses.lane))
           (λ h.
           let again = same_fault {U = Unit {0}} c.in-Err-cut.fault fault.Reopen h in
-          k.uses.lane.idle again ∙ m.closed (sym (ap (λ (x : LogView). x.broken) m.log.ok ∙ noted_broken _ c.args.log.now) ∙ (k.reopen.0 again).0));
+          k.uses.lane.disk.idle again ∙ m.closed (sym (ap (λ (x : LogView). x.broken) m.log.ok ∙ noted_broken _ c.args.log.now) ∙ (k.reopen.0 again).0));
       stands = k.uses.stands;
     }
 

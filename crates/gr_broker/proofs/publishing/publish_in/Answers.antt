@@ -119,7 +119,7 @@ returns-clause-uses g c =
 -- no lane of another publisher is touched
 others_stay : (g : Over) (c : goal.After-held-1 g) → g.D.Disk.tells → (n : ℕ) → AwayFrom (2 * c.args.p) n → g.D.Disk.lane_of c.publish_part.new.disk n ≡ g.D.Disk.lane_of c.args.disk.now n
 others_stay g c t n away =
-    there c.index_mut.result.now.log (has_log g c) (λ m em. let k = c.publish_part.ensures.uses m em in k.others t n (subst (λ (i : ℕ). AwayFrom i n) (sym (on_lane g c m em)) away))
+    there c.index_mut.result.now.log (has_log g c) (λ m em. let k = c.publish_part.ensures.uses m em in k.disk.others t n (subst (λ (i : ℕ). AwayFrom i n) (sym (on_lane g c m em)) away))
 
 pub returns-clause-stands : goal.returns-clause-stands
 returns-clause-stands g c t =

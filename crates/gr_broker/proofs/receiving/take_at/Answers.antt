@@ -42,7 +42,7 @@ pub returns-clause-after : goal.returns-clause-after
 returns-clause-after c =
     on_ok c.take_frame.result (λ (e : held_view c.take_frame.new.held ≡ view_after (receipt_of_fit (net_of c.site_at-site.result.topo.now) c.args.now (held_view c.index_mut.result.now) c.args.frame.now) (held_view c.index_mut.result.now)).
     put_back c.args.seat.now.number c.args.seat.now.here.now c.args.seat.now.edges.now c.args.seat.now.positions.now c.args.held.now.items c.args.frame.now.head.publisher c.index_mut.result.now c.take_frame.new.held c.args.frame.now _
-    refl (search rules) c.index_mut.ensures.value c.take_frame.ensures.log e
+    refl (search rules) c.index_mut.ensures.value c.take_frame.ensures.part.elsewhere e
     ∙ ap (λ r. after_receipt (Ok c.args.frame.now) r (seen_broker c.args.seat.now.number c.args.seat.now.here.now c.args.seat.now.edges.now c.args.seat.now.positions.now c.args.held.now.items)) (sym (receipt_is c)))
     c.take_frame.ensures.view
 
@@ -50,16 +50,16 @@ pub returns-clause-err : goal.returns-clause-err
 returns-clause-err c =
     on_err c.take_frame.result (λ (e : held_view c.take_frame.new.held ≡ held_view c.index_mut.result.now).
     same_set held_view c.args.held.now.items c.args.frame.now.head.publisher c.take_frame.new.held c.index_mut.result.now (search rules) (e ∙ ap held_view c.index_mut.ensures.value))
-    c.take_frame.ensures.err
+    c.take_frame.ensures.part.err
 
 pub returns-clause-logs : goal.returns-clause-logs
 returns-clause-logs c =
-    same_set (λ x. x.log) c.args.held.now.items c.args.frame.now.head.publisher c.take_frame.new.held c.index_mut.result.now (search rules) (c.take_frame.ensures.log ∙ ap (λ x. x.log) c.index_mut.ensures.value)
+    same_set (λ x. x.log) c.args.held.now.items c.args.frame.now.head.publisher c.take_frame.new.held c.index_mut.result.now (search rules) (c.take_frame.ensures.part.elsewhere ∙ ap (λ x. x.log) c.index_mut.ensures.value)
 
 -- what is kept of the frame's publisher is kept as it has to be
 kept_here : (c : goal.After-held-1) → IsKept (net_of c.args.seat.now.topo.now) c.args.frame.now.head.publisher c.args.seat.now.number (held_view c.take_frame.new.held)
 kept_here c =
-    let a = subst (λ t. IsKept (net_of t) c.site_at-site.result.publisher c.site_at-site.result.broker (held_view c.take_frame.new.held)) c.site_at-site.ensures.topo c.take_frame.ensures.kept in
+    let a = subst (λ t. IsKept (net_of t) c.site_at-site.result.publisher c.site_at-site.result.broker (held_view c.take_frame.new.held)) c.site_at-site.ensures.topo c.take_frame.ensures.part.kept in
     let b = subst (λ (p : ℕ). IsKept (net_of c.args.seat.now.topo.now) p c.site_at-site.result.broker (held_view c.take_frame.new.held)) c.site_at-site.ensures.publisher a in
     subst (λ (n : ℕ). IsKept (net_of c.args.seat.now.topo.now) c.args.frame.now.head.publisher n (held_view c.take_frame.new.held)) c.site_at-site.ensures.broker b
 
@@ -79,10 +79,10 @@ returns-clause-joined c =
     let new = c.take_frame.new.held in
     let lt : p < length held = search rules in
     hold_set held p new lt c.requires.joined (λ l e.
-    let is : get_or (logs_of held) p None ≡ Some l = get_or-map (λ (x : Held). x.log) held p old None lt ∙ ap (λ (x : Held). x.log) (sym c.index_mut.ensures.value) ∙ sym c.take_frame.ensures.log ∙ e in
+    let is : get_or (logs_of held) p None ≡ Some l = get_or-map (λ (x : Held). x.log) held p old None lt ∙ ap (λ (x : Held). x.log) (sym c.index_mut.ensures.value) ∙ sym c.take_frame.ensures.part.elsewhere ∙ e in
     let seen_here : held_view old ≡ get_or (map held_view held) p blank_view = ap held_view c.index_mut.ensures.value ∙ sym (get_or-map held_view held p old blank_view lt) in
     let host : is_host (net_of c.args.seat.now.topo.now) p c.args.seat.now.number ≡ true = sym (c.requires.hosted p (search rules)) ∙ ap is_some is in
-    same_after c.take_frame.result (held_view old) (held_view new) _ c.take_frame.ensures.view c.take_frame.ensures.err
+    same_after c.take_frame.result (held_view old) (held_view new) _ c.take_frame.ensures.view c.take_frame.ensures.part.err
     (subst (λ (t : TopologyView). (view_after (receipt_of_fit (net_of t) c.args.now (held_view old) c.args.frame.now) (held_view old)).joins ≡ (held_view old).joins) (sym c.site_at-site.ensures.topo)
     (receipt_joins c.args.seat.now.topo.now c.args.now c.args.seat.now.number (held_view old) c.args.frame.now c.brokers.ensures.topology (sym (c.if-not-fits.ensures {u = tt})) host))
     ∙ ap (λ (v : View). v.joins) seen_here ∙ c.requires.joined p l is)

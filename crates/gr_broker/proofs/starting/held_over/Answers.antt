@@ -41,7 +41,7 @@ returns-clause-started c =
     let fresh = fresh_here s.topo.now s.publisher s.broker c.requires.here c.args.log c.in_ok-know.know.runs c.share-joins.result held c.in_ok-held.ensures.view c.in_ok-know.ensures.known (c.share-joins.ensures ∙ c.joins.ensures) in
     let same = learns_nothing s.topo.now s.publisher s.broker c.requires.here c.args.log c.new.result held c.new.ensures fresh in
     started_with s.topo.now s.publisher s.broker c.requires.here c.args.log c.requires.lane c.requires.whole c.requires.late (held_view c.learn-2.new.held) some
-    (c.in_ok-learn.ensures.view (said c.args.log) ∙ ap (λ (o : Outcome). o.view) same) c.in_ok-learn.ensures.kept c.learn-2.new.held.log (c.in_ok-learn.ensures.log ∙ c.in_ok-held.ensures.log)
+    (c.in_ok-learn.ensures.view (said c.args.log) ∙ ap (λ (o : Outcome). o.view) same) c.in_ok-learn.ensures.part.kept c.learn-2.new.held.log (c.in_ok-learn.ensures.part.elsewhere ∙ c.in_ok-held.ensures.log)
 
 pub returns-clause-lines : goal.returns-clause-lines
 returns-clause-lines c =
@@ -57,4 +57,4 @@ returns-clause-lines c =
     ∙ ap (λ xs. xs ++ c.learn-2.new.into.reports) c.in_ok-tell_opened.ensures
     ∙ append_assoc into line c.learn-2.new.into.reports
     ∙ ap (λ xs. into ++ (line ++ xs)) (told.lines ∙ ap (λ (o : Outcome). o.lines) same)
-    ∙ ap (λ xs. into ++ xs) (sym (lines_with s.topo.now s.publisher s.broker c.requires.here c.args.log some c.learn-2.new.held.log (c.in_ok-learn.ensures.log ∙ c.in_ok-held.ensures.log)))
+    ∙ ap (λ xs. into ++ xs) (sym (lines_with s.topo.now s.publisher s.broker c.requires.here c.args.log some c.learn-2.new.held.log (c.in_ok-learn.ensures.part.elsewhere ∙ c.in_ok-held.ensures.log)))

@@ -121,4 +121,4 @@ returns-clause-stands g c = λ tells.
     subst (LogsStand (g.D.Disk.lane_of c.wake_part-answer.new.disk)) (seen_put c.args.seat.now c.args.held.now.items c.args.p c.wake_part-answer.new.part)
     (broker_stands (broker_at c.args.seat.now c.args.held.now.items) c.args.p (within g c) (g.D.Disk.lane_of c.args.disk.now) (g.D.Disk.lane_of c.wake_part-answer.new.disk) (part_of c.wake_part-answer.new.part) (c.requires.stands tells)
     (there g c (λ t q n y a. (l : LogView) → c.wake_part-answer.new.part.log ≡ Some l → IsReady l (lanes_at (g.D.Disk.lane_of c.wake_part-answer.new.disk) (2 * q))) (c.wake_part-answer.ensures.stands tells))
-    (there g c (λ t q n y a. (k : ℕ) → AwayFrom (2 * q) k → g.D.Disk.lane_of c.wake_part-answer.new.disk k ≡ g.D.Disk.lane_of c.args.disk.now k) (c.wake_part-answer.ensures.uses.others tells)))
+    (there g c (λ t q n y a. (k : ℕ) → AwayFrom (2 * q) k → g.D.Disk.lane_of c.wake_part-answer.new.disk k ≡ g.D.Disk.lane_of c.args.disk.now k) (c.wake_part-answer.ensures.uses.disk.others tells)))

@@ -18,13 +18,13 @@ returns-in-Ok-clause-leaves g c =
     let s = c.args.site.now in
     let below : is_host (net_of s.topo.now) s.publisher s.broker ≡ false = sym (ap (λ x. x.host) c.requires.site.branch) ∙ c.if-site.false in
     let none : c.args.part.now.log ≡ None = no_log c.args.part.now.log (c.requires.hosted ∙ below) in
-    below_ok s.topo.now s.publisher s.broker c.args.now (part_of c.args.part.now) below (part_of c.wake_below.new.held) c.in-Ok.told none c.wake_below.ensures.log c.in-Ok.ensures.view
+    below_ok s.topo.now s.publisher s.broker c.args.now (part_of c.args.part.now) below (part_of c.wake_below.new.held) c.in-Ok.told none c.wake_below.ensures.part.elsewhere c.in-Ok.ensures.view
 
 pub returns-in-Ok-clause-log : goal.returns-in-Ok-clause-log
 returns-in-Ok-clause-log g c =
     let s = c.args.site.now in
     let below : is_host (net_of s.topo.now) s.publisher s.broker ≡ false = sym (ap (λ x. x.host) c.requires.site.branch) ∙ c.if-site.false in
-    below_log s.topo.now s.publisher s.broker c.args.now (part_of c.args.part.now) below c.wake_below.new.held.log c.wake_below.ensures.log
+    below_log s.topo.now s.publisher s.broker c.args.now (part_of c.args.part.now) below c.wake_below.new.held.log c.wake_below.ensures.part.elsewhere
 
 pub returns-in-Ok-clause-lane : goal.returns-in-Ok-clause-lane
 returns-in-Ok-clause-lane g c = λ tells l e.
@@ -38,7 +38,7 @@ returns-in-Ok-clause-joined g c = λ l e.
     let s = c.args.site.now in
     let below : is_host (net_of s.topo.now) s.publisher s.broker ≡ false = sym (ap (λ x. x.host) c.requires.site.branch) ∙ c.if-site.false in
     let none : c.args.part.now.log ≡ None = no_log c.args.part.now.log (c.requires.hosted ∙ below) in
-    absurd (no_some none (sym c.wake_below.ensures.log ∙ e))
+    absurd (no_some none (sym c.wake_below.ensures.part.elsewhere ∙ e))
 
 pub returns-in-Ok-clause-reopen : goal.returns-in-Ok-clause-reopen
 returns-in-Ok-clause-reopen g c =
@@ -51,7 +51,7 @@ pub returns-in-Err-clause-leaves : goal.returns-in-Err-clause-leaves
 returns-in-Err-clause-leaves g c =
     let s = c.args.site.now in
     let below : is_host (net_of s.topo.now) s.publisher s.broker ≡ false = sym (ap (λ x. x.host) c.requires.site.branch) ∙ c.if-site.false in
-    below_err s.topo.now s.publisher s.broker c.args.now (part_of c.args.part.now) below (part_of c.wake_below.new.held) (ap₂ part_with c.in-Err.ensures.err c.wake_below.ensures.log)
+    below_err s.topo.now s.publisher s.broker c.args.now (part_of c.args.part.now) below (part_of c.wake_below.new.held) (ap₂ part_with c.in-Err.ensures.part.err c.wake_below.ensures.part.elsewhere)
 
 pub returns-in-Err-clause-lane : goal.returns-in-Err-clause-lane
 returns-in-Err-clause-lane g c = λ tells l e.
@@ -65,7 +65,7 @@ returns-in-Err-clause-joined g c = λ l e.
     let s = c.args.site.now in
     let below : is_host (net_of s.topo.now) s.publisher s.broker ≡ false = sym (ap (λ x. x.host) c.requires.site.branch) ∙ c.if-site.false in
     let none : c.args.part.now.log ≡ None = no_log c.args.part.now.log (c.requires.hosted ∙ below) in
-    absurd (no_some none (sym c.wake_below.ensures.log ∙ e))
+    absurd (no_some none (sym c.wake_below.ensures.part.elsewhere ∙ e))
 
 pub returns-in-Err-clause-reopen : goal.returns-in-Err-clause-reopen
 returns-in-Err-clause-reopen g c =

@@ -51,7 +51,7 @@ pub returns-clause-stands : goal.returns-clause-stands
 returns-clause-stands g c = λ tells.
     stands_at_host c.args.topo.now (seen c.args.self.now) c.args.p c.take_out-broker.result c.publish-answer.new.self c.put_back.new.brokers.items
     (place g c) c.requires.publisher c.publish-answer.result c.answered.result c.answered.ensures (outcome g c) (logs g c) (gives g c)
-    (g.D.Disk.lane_of c.args.disk.now) (g.D.Disk.lane_of c.publish-answer.new.disk) (c.publish-answer.ensures.uses.others tells) (c.requires.stands tells) (c.publish-answer.ensures.stands tells)
+    (g.D.Disk.lane_of c.args.disk.now) (g.D.Disk.lane_of c.publish-answer.new.disk) (c.publish-answer.ensures.uses.disk.others tells) (c.requires.stands tells) (c.publish-answer.ensures.stands tells)
 
 pub returns-clause-kept : goal.returns-clause-kept
 returns-clause-kept g c = λ tells.
@@ -62,4 +62,4 @@ returns-clause-kept g c = λ tells.
     let e = c.publish-answer.ensures in
     let at = sym c.host-host.ensures.host in
     publish_keeps t n c.requires.fits c.host-host.result c.args.p x was c.requires.publisher (g.D.Disk.lane_of c.args.disk.now) (g.D.Disk.lane_of c.publish-answer.new.disk) (log_answer c.publish-answer.result)
-    (e.uses.goes_on tells) (e.uses.others tells) c.args.number c.args.event.now at (hosts_here t n c.host-host.result c.args.p x c.requires.fits was c.requires.publisher at).1 (e.lane tells)
+    (e.uses.goes_on tells) (e.uses.disk.others tells) c.args.number c.args.event.now at (hosts_here t n c.host-host.result c.args.p x c.requires.fits was c.requires.publisher at).1 (e.lane tells)

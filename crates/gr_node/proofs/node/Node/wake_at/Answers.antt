@@ -42,18 +42,18 @@ returns-clause-stands g c = λ tells.
     let e = c.wake-answer.ensures in
     stands_wake c.args.topo.now (seen c.args.self.now) c.args.b c.args.p c.take_out-broker.result c.wake-answer.new.self c.put_back.new.brokers.items
     (place g c) c.requires.publisher c.wake-answer.result c.answered.result c.answered.ensures (gives g c)
-    (g.D.Disk.lane_of c.args.disk.now) (g.D.Disk.lane_of c.wake-answer.new.disk) (λ none m. ap (λ d. g.D.Disk.lane_of d m) (e.below none)) (e.uses.others tells) (c.requires.stands tells) (e.stands tells)
+    (g.D.Disk.lane_of c.args.disk.now) (g.D.Disk.lane_of c.wake-answer.new.disk) (λ none m. ap (λ d. g.D.Disk.lane_of d m) (e.below none)) (e.uses.disk.others tells) (c.requires.stands tells) (e.stands tells)
 
 pub returns-clause-others : goal.returns-clause-others
 returns-clause-others g c = λ tells.
     let e = c.wake-answer.ensures in
     others_wake c.args.topo.now (seen c.args.self.now) c.args.b c.args.p c.take_out-broker.result c.wake-answer.new.self c.put_back.new.brokers.items
     (place g c) c.requires.publisher c.wake-answer.result c.answered.result c.answered.ensures (gives g c)
-    (g.D.Disk.lane_of c.args.disk.now) (g.D.Disk.lane_of c.wake-answer.new.disk) (λ none m. ap (λ d. g.D.Disk.lane_of d m) (e.below none)) (e.uses.others tells)
+    (g.D.Disk.lane_of c.args.disk.now) (g.D.Disk.lane_of c.wake-answer.new.disk) (λ none m. ap (λ d. g.D.Disk.lane_of d m) (e.below none)) (e.uses.disk.others tells)
 
 pub returns-clause-kept : goal.returns-clause-kept
 returns-clause-kept g c = λ tells.
     let e = c.wake-answer.ensures in
     wake_keeps c.args.topo.now (seen c.args.self.now) c.requires.fits c.args.b c.args.p c.take_out-broker.result c.take_out-broker.ensures.was c.requires.publisher
     (g.D.Disk.lane_of c.args.disk.now) (g.D.Disk.lane_of c.wake-answer.new.disk) (log_answer c.wake-answer.result)
-    (e.uses.goes_on tells) (e.uses.others tells) (λ none m. ap (λ d. g.D.Disk.lane_of d m) (e.below none)) (e.lane tells)
+    (e.uses.goes_on tells) (e.uses.disk.others tells) (λ none m. ap (λ d. g.D.Disk.lane_of d m) (e.below none)) (e.lane tells)

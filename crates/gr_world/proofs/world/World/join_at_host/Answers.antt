@@ -49,9 +49,9 @@ on_lanes g c =
     let e = c.join-answer.ensures in
     record {
       lane = e.lane g.met.D.SimDisk.told;
-      idle = λ h n. ap (λ d. g.D.Disk.lane_of d n) (e.uses.idle (ap log_answer h));
+      idle = λ h n. ap (λ d. g.D.Disk.lane_of d n) (e.uses.disk.idle (ap log_answer h));
       untouched = λ h n. ap (λ d. g.D.Disk.lane_of d n) (e.untouched h);
-      others = e.uses.others g.met.D.SimDisk.told;
+      others = e.uses.disk.others g.met.D.SimDisk.told;
       stands = e.stands g.met.D.SimDisk.told;
     }
 
@@ -80,7 +80,7 @@ pub returns-clause-unchanged : goal.returns-clause-unchanged
 returns-clause-unchanged g c = λ h. (
   unchanged_join (the_view c.self.inside) c.args.self.now c.host-host.result c.args.p c.args.s c.index_mut-broker.result.now c.join-answer.new.self c.take_answer.new.frames
       c.join-answer.result c.take_answer.result (site g c) (sym c.host-host.ensures.host) c.every_topology_is_a_tree.ensures.tree c.requires.late (gives g c) c.take_answer.ensures.follows c.take_answer.ensures.takes h,
-  c.join-answer.ensures.uses.idle (ap log_answer (reopen_follows c.join-answer.result c.take_answer.result c.take_answer.ensures.follows h)),
+  c.join-answer.ensures.uses.disk.idle (ap log_answer (reopen_follows c.join-answer.result c.take_answer.result c.take_answer.ensures.follows h)),
 )
 
 pub returns-clause-failed : goal.returns-clause-failed
@@ -93,7 +93,7 @@ returns-clause-disk g c =
     let e = c.join-answer.ensures in
     ran_on (g.D.Disk.faultless c.args.disk.now) (g.D.Disk.faultless c.join-answer.new.disk) (g.D.Disk.faults c.args.disk.now) (g.D.Disk.stops c.args.disk.now)
     (g.D.Disk.faults c.join-answer.new.disk) (g.D.Disk.stops c.join-answer.new.disk) (either_stopped (lanes_at (g.D.Disk.lane_of c.join-answer.new.disk) (log_lane c.args.p))) c.join-answer.result c.take_answer.result
-    c.take_answer.ensures.follows e.uses.tally (e.uses.causes g.met.D.SimDisk.told) e.uses.faultless_stays
+    c.take_answer.ensures.follows e.uses.disk.tally (e.uses.disk.causes g.met.D.SimDisk.told) e.uses.disk.faultless_stays
     (site_unstopped (the_view c.self.inside) c.args.self.now c.host-host.result c.args.p c.index_mut-broker.result.now (site g c) c.join-answer.new.self c.take_answer.new.frames c.take_answer.result
     (g.D.Disk.lane_of c.join-answer.new.disk) c.every_topology_is_a_tree.ensures.tree (ran g c) (lanes g c))
 

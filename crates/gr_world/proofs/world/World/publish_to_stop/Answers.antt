@@ -71,9 +71,9 @@ returns-then-is_broken_by-clause-stopped g c = λ is tick some.
     let on : PublishesOn c.index_mut-broker.result.now c.args.p c.self.inside.clock c.args.number c.args.event.now c.publish-answer.new.self (g.D.Disk.lane_of c.stop_both.new.disk) (g.D.Disk.lane_of c.publish-answer.new.disk) c.publish-answer.result =
     record {
       lane = e.lane g.met.D.SimDisk.told;
-      idle = λ h n. ap (λ d. g.D.Disk.lane_of d n) (e.uses.idle (ap log_answer h));
+      idle = λ h n. ap (λ d. g.D.Disk.lane_of d n) (e.uses.disk.idle (ap log_answer h));
       untouched = λ h n. ap (λ d. g.D.Disk.lane_of d n) (e.untouched h);
-      others = e.uses.others g.met.D.SimDisk.told;
+      others = e.uses.disk.others g.met.D.SimDisk.told;
       stands = e.stands g.met.D.SimDisk.told;
     } in
     stopped_at (the_view c.self.inside) c.args.self.now c.args.host c.args.p c.args.number c.args.event.now c.index_mut-broker.result.now c.publish-answer.new.self c.publish-answer.result s host c.every_topology_is_a_tree.ensures.tree k (g.D.Disk.lane_of c.args.disk.now) (g.D.Disk.lane_of c.stop_both.new.disk) (g.D.Disk.lane_of c.publish-answer.new.disk) c.args.stop.now.call c.args.stop.now.pick tick c.stop_both.ensures.both c.requires.first
@@ -101,9 +101,9 @@ stop_both-requires-2-clause-reserved g c =
     let on : PublishesOn c.index_mut-broker.result.now c.args.p c.self.inside.clock c.args.number c.args.event.now c.publish-answer.new.self (g.D.Disk.lane_of c.stop_both.new.disk) (g.D.Disk.lane_of c.publish-answer.new.disk) c.publish-answer.result =
     record {
       lane = e.lane g.met.D.SimDisk.told;
-      idle = λ h n. ap (λ d. g.D.Disk.lane_of d n) (e.uses.idle (ap log_answer h));
+      idle = λ h n. ap (λ d. g.D.Disk.lane_of d n) (e.uses.disk.idle (ap log_answer h));
       untouched = λ h n. ap (λ d. g.D.Disk.lane_of d n) (e.untouched h);
-      others = e.uses.others g.met.D.SimDisk.told;
+      others = e.uses.disk.others g.met.D.SimDisk.told;
       stands = e.stands g.met.D.SimDisk.told;
     } in
     reserved_left (the_view c.self.inside) c.args.self.now c.args.host c.args.p c.args.number c.args.event.now c.index_mut-broker.result.now c.publish-answer.new.self c.publish-answer.result s host c.every_topology_is_a_tree.ensures.tree k (g.D.Disk.lane_of c.args.disk.now) (g.D.Disk.lane_of c.stop_both.new.disk) (g.D.Disk.lane_of c.publish-answer.new.disk) (stop_at c.args.stop.now.call c.args.stop.now.pick) c.stop_both.ensures.both h.lane.reserved on
@@ -149,9 +149,9 @@ returns-clause-never_through g c = λ lines is.
     let on : PublishesOn c.index_mut-broker.result.now c.args.p c.self.inside.clock c.args.number c.args.event.now c.publish-answer.new.self (g.D.Disk.lane_of c.stop_both.new.disk) (g.D.Disk.lane_of c.publish-answer.new.disk) c.publish-answer.result =
     record {
       lane = e.lane g.met.D.SimDisk.told;
-      idle = λ h n. ap (λ d. g.D.Disk.lane_of d n) (e.uses.idle (ap log_answer h));
+      idle = λ h n. ap (λ d. g.D.Disk.lane_of d n) (e.uses.disk.idle (ap log_answer h));
       untouched = λ h n. ap (λ d. g.D.Disk.lane_of d n) (e.untouched h);
-      others = e.uses.others g.met.D.SimDisk.told;
+      others = e.uses.disk.others g.met.D.SimDisk.told;
       stands = e.stands g.met.D.SimDisk.told;
     } in
     let lines_is : lines_in c.match-take_answer.result ≡ c.take_answer.result = elim c.match-take_answer.branch [
@@ -178,14 +178,14 @@ returns-clause-lanes g c = λ ne.
     let on : PublishesOn c.index_mut-broker.result.now c.args.p c.self.inside.clock c.args.number c.args.event.now c.publish-answer.new.self (g.D.Disk.lane_of c.stop_both.new.disk) (g.D.Disk.lane_of c.publish-answer.new.disk) c.publish-answer.result =
     record {
       lane = e.lane g.met.D.SimDisk.told;
-      idle = λ h n. ap (λ d. g.D.Disk.lane_of d n) (e.uses.idle (ap log_answer h));
+      idle = λ h n. ap (λ d. g.D.Disk.lane_of d n) (e.uses.disk.idle (ap log_answer h));
       untouched = λ h n. ap (λ d. g.D.Disk.lane_of d n) (e.untouched h);
-      others = e.uses.others g.met.D.SimDisk.told;
+      others = e.uses.disk.others g.met.D.SimDisk.told;
       stands = e.stands g.met.D.SimDisk.told;
     } in
     ended_fit (the_view c.self.inside) c.args.self.now c.args.host c.args.p c.args.number c.args.event.now c.index_mut-broker.result.now c.publish-answer.new.self c.publish-answer.result s host c.every_topology_is_a_tree.ensures.tree k c.take_answer.new.frames c.take_answer.result (g.D.Disk.lane_of c.args.disk.now) (g.D.Disk.lane_of c.stop_both.new.disk) (g.D.Disk.lane_of c.publish-answer.new.disk) (g.D.Disk.lane_of c.stop_both-2.new.disk) (stop_at c.args.stop.now.call c.args.stop.now.pick)
     c.take_answer.ensures.follows c.take_answer.ensures.takes c.requires.lanes c.stop_both.ensures.both c.stop_both-2.ensures.both c.stop_both-2.ensures.others
-    (λ m away. c.stop_both-2.ensures.others m away ∙ (e.uses.others g.met.D.SimDisk.told m away ∙ c.stop_both.ensures.others m away)) on
+    (λ m away. c.stop_both-2.ensures.others m away ∙ (e.uses.disk.others g.met.D.SimDisk.told m away ∙ c.stop_both.ensures.others m away)) on
 
 pub returns-then-is_broken_by-clause-reopen : goal.returns-then-is_broken_by-clause-reopen
 returns-then-is_broken_by-clause-reopen g c =
@@ -289,15 +289,15 @@ returns-then-is_broken_by-clause-calls g c =
     let on : PublishesOn c.index_mut-broker.result.now c.args.p c.self.inside.clock c.args.number c.args.event.now c.publish-answer.new.self (g.D.Disk.lane_of c.stop_both.new.disk) (g.D.Disk.lane_of c.publish-answer.new.disk) c.publish-answer.result =
     record {
       lane = e.lane g.met.D.SimDisk.told;
-      idle = λ h n. ap (λ d. g.D.Disk.lane_of d n) (e.uses.idle (ap log_answer h));
+      idle = λ h n. ap (λ d. g.D.Disk.lane_of d n) (e.uses.disk.idle (ap log_answer h));
       untouched = λ h n. ap (λ d. g.D.Disk.lane_of d n) (e.untouched h);
-      others = e.uses.others g.met.D.SimDisk.told;
+      others = e.uses.disk.others g.met.D.SimDisk.told;
       stands = e.stands g.met.D.SimDisk.told;
     } in
     stopped_calls (the_view c.self.inside) c.args.self.now c.args.host c.args.p c.args.number c.args.event.now c.index_mut-broker.result.now c.publish-answer.new.self c.publish-answer.result s host c.every_topology_is_a_tree.ensures.tree k c.stands_read.ensures
     (g.D.Disk.lane_of c.args.disk.now) (g.D.Disk.lane_of c.stop_both.new.disk) (g.D.Disk.lane_of c.publish-answer.new.disk) (g.D.Disk.lane_of c.publish-answer.new.disk) (stop_at c.args.stop.now.call c.args.stop.now.pick)
     h.log h.there h.lane c.stop_both.ensures.both on (e.uses.goes_on g.met.D.SimDisk.told) (same_both (lanes_at (g.D.Disk.lane_of c.publish-answer.new.disk) (log_lane c.args.p)))
-    (λ m away. e.uses.others g.met.D.SimDisk.told m away ∙ c.stop_both.ensures.others m away)
+    (λ m away. e.uses.disk.others g.met.D.SimDisk.told m away ∙ c.stop_both.ensures.others m away)
 
 pub returns-clause-calls : goal.returns-clause-calls
 returns-clause-calls g c =
@@ -319,13 +319,13 @@ returns-clause-calls g c =
     let on : PublishesOn c.index_mut-broker.result.now c.args.p c.self.inside.clock c.args.number c.args.event.now c.publish-answer.new.self (g.D.Disk.lane_of c.stop_both.new.disk) (g.D.Disk.lane_of c.publish-answer.new.disk) c.publish-answer.result =
     record {
       lane = e.lane g.met.D.SimDisk.told;
-      idle = λ h n. ap (λ d. g.D.Disk.lane_of d n) (e.uses.idle (ap log_answer h));
+      idle = λ h n. ap (λ d. g.D.Disk.lane_of d n) (e.uses.disk.idle (ap log_answer h));
       untouched = λ h n. ap (λ d. g.D.Disk.lane_of d n) (e.untouched h);
-      others = e.uses.others g.met.D.SimDisk.told;
+      others = e.uses.disk.others g.met.D.SimDisk.told;
       stands = e.stands g.met.D.SimDisk.told;
     } in
     let left = lanes_at (g.D.Disk.lane_of c.publish-answer.new.disk) (log_lane c.args.p) in
     stopped_calls (the_view c.self.inside) c.args.self.now c.args.host c.args.p c.args.number c.args.event.now c.index_mut-broker.result.now c.publish-answer.new.self c.publish-answer.result s host c.every_topology_is_a_tree.ensures.tree k c.stands_read.ensures
     (g.D.Disk.lane_of c.args.disk.now) (g.D.Disk.lane_of c.stop_both.new.disk) (g.D.Disk.lane_of c.publish-answer.new.disk) (g.D.Disk.lane_of c.stop_both-2.new.disk) (stop_at c.args.stop.now.call c.args.stop.now.pick)
     h.log h.there h.lane c.stop_both.ensures.both on (e.uses.goes_on g.met.D.SimDisk.told) (subst (SameBoth left) (sym c.stop_both-2.ensures.both) (same_stops Unset left))
-    (λ m away. c.stop_both-2.ensures.others m away ∙ (e.uses.others g.met.D.SimDisk.told m away ∙ c.stop_both.ensures.others m away))
+    (λ m away. c.stop_both-2.ensures.others m away ∙ (e.uses.disk.others g.met.D.SimDisk.told m away ∙ c.stop_both.ensures.others m away))

@@ -52,7 +52,7 @@ on_lanes g c =
       lane = e.lane g.met.D.SimDisk.told;
       below = λ h n. ap (λ d. g.D.Disk.lane_of d n) (e.below h);
       broken = λ h n. ap (λ d. g.D.Disk.lane_of d n) (closed g c h);
-      others = e.uses.others g.met.D.SimDisk.told;
+      others = e.uses.disk.others g.met.D.SimDisk.told;
       stands = e.stands g.met.D.SimDisk.told;
     }
 
@@ -77,7 +77,7 @@ returns-clause-disk g c =
     let e = c.wake-answer.ensures in
     ran_on (g.D.Disk.faultless c.args.disk.now) (g.D.Disk.faultless c.wake-answer.new.disk) (g.D.Disk.faults c.args.disk.now) (g.D.Disk.stops c.args.disk.now)
     (g.D.Disk.faults c.wake-answer.new.disk) (g.D.Disk.stops c.wake-answer.new.disk) (either_stopped (lanes_at (g.D.Disk.lane_of c.wake-answer.new.disk) (log_lane c.args.p))) c.wake-answer.result c.take_answer.result
-    c.take_answer.ensures.follows e.uses.tally (e.uses.causes g.met.D.SimDisk.told) e.uses.faultless_stays
+    c.take_answer.ensures.follows e.uses.disk.tally (e.uses.disk.causes g.met.D.SimDisk.told) e.uses.disk.faultless_stays
     (site_unstopped (the_view c.self.inside) c.args.self.now c.args.b c.args.p c.index_mut-broker.result.now (site g c) c.wake-answer.new.self c.take_answer.new.frames c.take_answer.result
     (g.D.Disk.lane_of c.wake-answer.new.disk) c.every_topology_is_a_tree.ensures.tree (ran g c) (lanes g c))
 
