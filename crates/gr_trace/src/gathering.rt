@@ -61,13 +61,11 @@ pub(crate) fn is_known(done: &Result<(), RunFault>) -> bool
 {
     match done {
         Ok(()) => true,
-        Err(fault) => match fault {
-            RunFault::Disk => true,
-            RunFault::Damaged { .. } => true,
-            RunFault::Memory => false,
-            RunFault::Write => false,
-            RunFault::Post => true,
-        },
+        Err(RunFault::Memory) => false,
+        Err(RunFault::Write) => false,
+        Err(RunFault::Disk) => true,
+        Err(RunFault::Damaged { .. }) => true,
+        Err(RunFault::Post) => true,
     }
 }
 
