@@ -19,6 +19,10 @@ pub record NodeView : Type 0 where
 abbrev pub seen : Node → NodeView
 seen n = record { brokers = n.brokers.items; offers = n.offers; now = n.now; orders = n.orders }
 
+-- the same node, with so many frames offered and with what these lists have heard
+abbrev pub told_to : NodeView → ℕ → List Order → NodeView
+told_to n offers orders = record { brokers = n.brokers; offers = offers; now = n.now; orders = orders }
+
 -- the broker of a number, where it is hosted
 abbrev pub broker_in : NodeView → ℕ → Option BrokerView
 broker_in n b = get_or n.brokers b None

@@ -14,16 +14,16 @@ ghost use Rattle.gr_model.specs.World.{sent_line, sent_lines};
 ghost use Rattle.gr_model_calls.specs.Edges.{GoesOverEdge};
 ghost use Rattle.gr_report.specs.Named.{AllNamed};
 ghost use Rattle.gr_outbox.specs.Said.{frame_said};
-ghost use Rattle.gr_node.specs.Seen.{text_of};
+ghost use Rattle.gr_node.specs.Seen.{seen, told_to, text_of};
 ghost use Rattle.gr_node.specs.Keeps.{PutKeeps, TellKeeps};
 ghost use Rattle.gr_node.specs.Plan.{offers_of};
 ghost use Rattle.gr_node.specs.Went.{Begins};
 
+use crate::node::{Node, Site};
 use crate::ordering::put_heard;
 use gr_broker::Outcome;
 use gr_frame::Frames;
 use gr_model::Report;
-use gr_order_lists::Orders;
 use gr_out::{Page, Post, PostFault, RunFault, Sink};
 use gr_outbox::sent_report;
 use gr_report::put_line;
@@ -156,34 +156,47 @@ fn offer_frames<P: Post, K: Sink>(
 /// `Memory` where memory is refused, and `Write` only where the sink failed; a front of the lines is told then, and a
 /// front of the frames offered.
 pub(crate) fn tell<P: Post, K: Sink>(
-    alloc: Global,
-    topo: &Topology,
+    site: &Site<'_>,
     told: Outcome,
-    offers: &mut u64,
-    orders: &mut Orders,
+    node: &mut Node,
     post: &mut P,
     page: &mut Page,
     sink: &mut K,
 ) -> Result<(), RunFault>
-    requires named { AllNamed topo.now told.reports }
+    requires named { AllNamed site.now.topo.now told.reports }
     requires over { (fs : List Frame)
-        × (AreFrames told.frames.frames fs × AllByRecursion (GoesOverEdge (net_of topo.now)) fs) }
+        × (AreFrames told.frames.frames fs × AllByRecursion (GoesOverEdge (net_of site.now.topo.now)) fs) }
     ensures told { (fs : List Frame) → AreFrames told.frames.frames fs
         → OnOk result (TakesBut (K.taken sink.old) (K.taken sink.new)
-        (page.old.held ++ text_of topo.now (told.reports ++ sent_lines (suc offers.old) fs)) page.new.held) }
+        (page.old.held ++ text_of site.now.topo.now (told.reports ++ sent_lines (suc node.old.offers) fs)) page.new.held) }
     ensures front { (fs : List Frame) → AreFrames told.frames.frames fs
         → OnErr result (TakesFront (K.taken sink.old) (K.taken sink.new)
-        (page.old.held ++ text_of topo.now (told.reports ++ sent_lines (suc offers.old) fs))) }
+        (page.old.held ++ text_of site.now.topo.now (told.reports ++ sent_lines (suc node.old.offers) fs))) }
     ensures sent { P.tells → (fs : List Frame) → AreFrames told.frames.frames fs
         → OnOk result (P.journal post.new ≡ P.journal post.old ++ offers_of fs) }
     ensures sent_front { P.tells → (fs : List Frame) → AreFrames told.frames.frames fs
         → OnErr result (Begins (P.journal post.old) (P.journal post.new) (offers_of fs)) }
-    ensures offers { OnOk result (offers.new ≡ offers.old + length told.frames.frames) }
-    ensures heard { OnOk result (orders.new ≡ fed orders.old told.reports) }
+    ensures offers { OnOk result (node.new.offers ≡ node.old.offers + length told.frames.frames) }
+    ensures rest { seen node.new ≡ told_to (seen node.old) node.new.offers node.new.orders }
+    ensures heard { OnOk result (node.new.orders ≡ fed node.old.orders told.reports) }
     ensures keeps { TellKeeps (K.faults sink.old) (K.faults sink.new) (P.faults post.old) (P.faults post.new) result }
 {
-    match put_heard(topo, told.reports.as_slice(), orders, page, sink) {
-        Ok(()) => offer_frames(alloc, topo, told.frames.bytes(), offers, post, page, sink),
+    match put_heard(
+        site.topo,
+        told.reports.as_slice(),
+        &mut node.orders,
+        page,
+        sink,
+    ) {
+        Ok(()) => offer_frames(
+            site.alloc,
+            site.topo,
+            told.frames.bytes(),
+            &mut node.offers,
+            post,
+            page,
+            sink,
+        ),
         Err(fault) => Err(fault),
     }
 }

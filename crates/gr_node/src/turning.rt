@@ -42,16 +42,7 @@ pub(crate) fn receive<P: Post, K: Sink>(
     ensures keeps { TellKeeps (K.faults sink.old) (K.faults sink.new) (P.faults post.old) (P.faults post.new) result }
 {
     match node.receive_at(site.alloc, site.topo, b, bytes) {
-        Ok(told) => tell(
-            site.alloc,
-            site.topo,
-            told,
-            &mut node.offers,
-            &mut node.orders,
-            post,
-            page,
-            sink,
-        ),
+        Ok(told) => tell(site, told, node, post, page, sink),
         Err(fault) => Err(fault),
     }
 }
@@ -84,16 +75,7 @@ pub(crate) fn publish<D: Disk, P: Post, K: Sink>(
     ensures cause { IfErr result IsTurnFault }
 {
     match node.publish_at(site.topo, disk, p, number, event) {
-        Ok(told) => tell(
-            site.alloc,
-            site.topo,
-            told,
-            &mut node.offers,
-            &mut node.orders,
-            post,
-            page,
-            sink,
-        ),
+        Ok(told) => tell(site, told, node, post, page, sink),
         Err(fault) => Err(fault),
     }
 }
@@ -126,16 +108,7 @@ fn join<D: Disk, P: Post, K: Sink>(
     ensures cause { IfErr result IsTurnFault }
 {
     match node.join_at(site.topo, disk, p, s) {
-        Ok(told) => tell(
-            site.alloc,
-            site.topo,
-            told,
-            &mut node.offers,
-            &mut node.orders,
-            post,
-            page,
-            sink,
-        ),
+        Ok(told) => tell(site, told, node, post, page, sink),
         Err(fault) => Err(fault),
     }
 }
@@ -167,16 +140,7 @@ fn wake<D: Disk, P: Post, K: Sink>(
     ensures cause { IfErr result IsTurnFault }
 {
     match node.wake_at(site.topo, disk, b, p) {
-        Ok(told) => tell(
-            site.alloc,
-            site.topo,
-            told,
-            &mut node.offers,
-            &mut node.orders,
-            post,
-            page,
-            sink,
-        ),
+        Ok(told) => tell(site, told, node, post, page, sink),
         Err(fault) => Err(fault),
     }
 }
