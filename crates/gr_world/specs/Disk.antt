@@ -30,6 +30,12 @@ pub record Counts {T : Type 0} (faults stops faults' stops' : ℕ) (result : Res
   pub stops_never_fall : stops ≤ stops'
   pub rose : IsErrOf result fault.Disk → EitherRose faults faults' stops stops'
 
+-- A call that cannot fail moves neither, and a faultless disk stays one
+pub record KeepsCounts {S : Type 0} (faultless : S → Type 0) (faults stops : S → ℕ) (old new : S) : Type 0 where
+  pub faults_same : faults new ≡ faults old
+  pub stops_same : stops new ≡ stops old
+  pub faultless_stays : StaysFaultless (faultless old) (faultless new) (faults old) (faults new)
+
 -- What a call does to the disk beside its lanes: how its counts move, and that a faultless disk stays one and never
 -- fails it
 pub record UsesDisk (faultless faultless' : Type 0) (faults stops faults' stops' : ℕ)
@@ -37,6 +43,10 @@ pub record UsesDisk (faultless faultless' : Type 0) (faults stops faults' stops'
   pub counts : Counts faults stops faults' stops' result
   pub faultless_stays : StaysFaultless faultless faultless' faults faults'
   pub never_fails : faultless → result ≢ Err fault.Disk
+
+abbrev pub TakesDisk : {S : Type 0} → (S → Type 0) → (S → ℕ) → (S → ℕ) → S → S → Result (List Report) WorldFault → Type 0
+TakesDisk faultless faults stops old new result =
+    UsesDisk (faultless old) (faultless new) (faults old) (stops old) (faults new) (stops new) result
 
 -- no lane is touched but those of the publishers
 abbrev pub LeavesOthers : TopologyView → (ℕ → Lane) → (ℕ → Lane) → Type 0

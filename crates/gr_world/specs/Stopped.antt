@@ -50,6 +50,13 @@ lines_in (Err e) = Err e
 abbrev pub broken_in : WorldView → ℕ → ℕ → WorldView
 broken_in w b p = put_in w b (broken_at (broker_in w b) p) w.frames
 
+-- What a publish or a join for a publisher leaves at a fault: where something has to be opened again all is as it was,
+-- and where the disk failed the log is broken and all else stands
+pub record LeavesAtFault {S T : Type 0} (p : ℕ) (old new : WorldView) (before after : S) (result : Result T WorldFault)
+    : Type 0 where
+  pub unchanged : IsErrOf result fault.Reopen → (new ≡ old) × (after ≡ before)
+  pub failed : IsErrOf result fault.Disk → new ≡ broken_in old (host_of old.topo p) p
+
 -- what a stopped publish leaves where the disk fails: the log is broken, and where the opening failed the host is down
 abbrev pub BreaksStopped : ℕ → ℕ → WorldView → WorldView → Type 0
 BreaksStopped b p old new = (new ≡ broken_in old b p) ⊎ (new ≡ with_down (broken_in old b p) b)

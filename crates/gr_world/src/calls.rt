@@ -2,16 +2,16 @@
 
 ghost use Rattle.std.specs.Prelude.{◌≡◌, ◌↔◌, ℕ, ◌<◌, true, suc, length, Some, Err, IsErrOf};
 ghost use Rattle.gr_frame.specs.declared.Frame.{Frame};
-ghost use Rattle.gr_topo.specs.Topology.{host_of, late_of};
+ghost use Rattle.gr_topo.specs.Topology.{late_of};
 ghost use Rattle.gr_model.specs.World.{wake_for, deliver_frame, publish_now, join_now, frame_at};
 ghost use Rattle.gr_world.specs.Seen.{net_in, world_of, log_at};
 ghost use Rattle.gr_world.specs.Of.{IsWorld, LanesFit};
 ghost use Rattle.gr_world.specs.Steps.{Does};
 ghost use Rattle.gr_world.specs.Ran.{IsOpen, Ran, TouchesOne};
-ghost use Rattle.gr_world.specs.Disk.{UsesDisk, IsBarred, IsBarredJoin, IsWakeBarred};
+ghost use Rattle.gr_world.specs.Disk.{TakesDisk, IsBarred, IsBarredJoin, IsWakeBarred};
 ghost use Rattle.gr_world.specs.Moments.{CallsLanes};
 ghost use Rattle.gr_world.specs.Ended.{WakeEnds};
-ghost use Rattle.gr_world.specs.Stopped.{broken_in};
+ghost use Rattle.gr_world.specs.Stopped.{LeavesAtFault};
 
 use crate::fault::WorldFault;
 use crate::heads::receiver;
@@ -39,13 +39,11 @@ impl World {
         requires lanes { LanesFit (D.lane_of disk.old) self.old }
         ensures does { Does (publish_now (net_in self.old) (world_of self.old) p number event.now) self.new result }
         ensures ran { Ran self.old self.new result }
-        ensures reopen { IsErrOf result WorldFault.Reopen ↔ IsBarred self.old p number event.now }
-        ensures unchanged { IsErrOf result WorldFault.Reopen → (self.new ≡ self.old) × (disk.new ≡ disk.old) }
-        ensures failed { IsErrOf result WorldFault.Disk → self.new ≡ broken_in self.old (host_of self.old.topo p) p }
-        ensures disk { UsesDisk (D.faultless disk.old) (D.faultless disk.new) (D.faults disk.old)
-            (D.stops disk.old) (D.faults disk.new) (D.stops disk.new) result }
+        ensures left { LeavesAtFault p self.old self.new disk.old disk.new result }
+        ensures disk { TakesDisk D.faultless D.faults D.stops disk.old disk.new result }
         ensures calls { CallsLanes self.old.topo (D.lane_of disk.old) (D.lane_of disk.new) }
         ensures lanes { LanesFit (D.lane_of disk.new) self.new }
+        ensures reopen { IsErrOf result WorldFault.Reopen ↔ IsBarred self.old p number event.now }
     {
         // Proof only: what is sent goes over edges, and lanes in which a log stands read as it.
         every_topology_is_a_tree(&self.topology);
@@ -71,13 +69,11 @@ impl World {
         requires lanes { LanesFit (D.lane_of disk.old) self.old }
         ensures does { Does (join_now (net_in self.old) (world_of self.old) s p) self.new result }
         ensures ran { Ran self.old self.new result }
-        ensures reopen { IsErrOf result WorldFault.Reopen ↔ IsBarredJoin self.old p s }
-        ensures unchanged { IsErrOf result WorldFault.Reopen → (self.new ≡ self.old) × (disk.new ≡ disk.old) }
-        ensures failed { IsErrOf result WorldFault.Disk → self.new ≡ broken_in self.old (host_of self.old.topo p) p }
-        ensures disk { UsesDisk (D.faultless disk.old) (D.faultless disk.new) (D.faults disk.old)
-            (D.stops disk.old) (D.faults disk.new) (D.stops disk.new) result }
+        ensures left { LeavesAtFault p self.old self.new disk.old disk.new result }
+        ensures disk { TakesDisk D.faultless D.faults D.stops disk.old disk.new result }
         ensures calls { CallsLanes self.old.topo (D.lane_of disk.old) (D.lane_of disk.new) }
         ensures lanes { LanesFit (D.lane_of disk.new) self.new }
+        ensures reopen { IsErrOf result WorldFault.Reopen ↔ IsBarredJoin self.old p s }
     {
         // Proof only: what is sent goes over edges, and lanes in which a log stands read as it.
         every_topology_is_a_tree(&self.topology);
@@ -129,8 +125,7 @@ impl World {
         ensures reopen { IsErrOf result WorldFault.Reopen ↔ IsWakeBarred self.old b p }
         ensures ends { WakeEnds b p result self.old self.new }
         ensures apart { TouchesOne b p self.old self.new }
-        ensures disk { UsesDisk (D.faultless disk.old) (D.faultless disk.new) (D.faults disk.old)
-            (D.stops disk.old) (D.faults disk.new) (D.stops disk.new) result }
+        ensures disk { TakesDisk D.faultless D.faults D.stops disk.old disk.new result }
         ensures calls { CallsLanes self.old.topo (D.lane_of disk.old) (D.lane_of disk.new) }
         ensures lanes { LanesFit (D.lane_of disk.new) self.new }
     {

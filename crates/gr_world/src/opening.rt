@@ -16,7 +16,7 @@ ghost use Rattle.gr_world.specs.Of.{IsWorld, LaneFits, IsReadable, LanesFit, IsS
 ghost use Rattle.gr_world.specs.Opened.{NoStops, AreEmpty, IsFound, IsLeft, IsOpened, IsSoundBut, Restarts, restart_over};
 ghost use Rattle.gr_world.specs.Opened.{with_down, Crashes, IsFirstDamaged};
 ghost use Rattle.gr_world.specs.Steps.{Makes, Refuses, Spends, Stays, Does, IsCarried, refused_at};
-ghost use Rattle.gr_world.specs.Disk.{Counts, StaysSound, NotDisk, UsesDisk, LeavesOthers};
+ghost use Rattle.gr_world.specs.Disk.{Counts, StaysSound, NotDisk, TakesDisk, LeavesOthers};
 ghost use Rattle.gr_world.specs.Starting.{TouchesLanes};
 ghost use Rattle.gr_world.specs.Fits.{Fits, GoesOn};
 
@@ -151,10 +151,7 @@ impl World {
             → IsLeft late (log_at self.new p) (lanes_at (D.lane_of disk.old) (log_lane p))) }
         ensures fits { IsWorld self.new }
         ensures faults { (e : WorldFault) → result ≡ Err e → (e ≡ WorldFault.Memory) ⊎ (e ≡ WorldFault.Disk) }
-        ensures counts { Counts (D.faults disk.old) (D.stops disk.old) (D.faults disk.new) (D.stops disk.new) result }
-        ensures faultless { StaysFaultless (D.faultless disk.old) (D.faultless disk.new)
-            (D.faults disk.old) (D.faults disk.new) }
-        ensures never_fails { D.faultless disk.old → result ≢ Err WorldFault.Disk }
+        ensures disk { TakesDisk D.faultless D.faults D.stops disk.old disk.new result }
         ensures touches { TouchesLanes self.old.topo b (D.lane_of disk.old) (D.lane_of disk.new) }
         // but after want of memory, when no call uses the lanes any more
         ensures lanes { (result ≢ Err WorldFault.Memory) → LanesFit (D.lane_of disk.new) self.new }
@@ -193,10 +190,7 @@ impl World {
         ensures failed { IsErrOf result WorldFault.Disk → self.new ≡ with_down self.old b }
         ensures carried { IsCarried result }
         ensures never_reopen { result ≢ Err WorldFault.Reopen }
-        ensures counts { Counts (D.faults disk.old) (D.stops disk.old) (D.faults disk.new) (D.stops disk.new) result }
-        ensures faultless { StaysFaultless (D.faultless disk.old) (D.faultless disk.new)
-            (D.faults disk.old) (D.faults disk.new) }
-        ensures never_fails { D.faultless disk.old → result ≢ Err WorldFault.Disk }
+        ensures disk { TakesDisk D.faultless D.faults D.stops disk.old disk.new result }
         ensures touches { TouchesLanes self.old.topo b (D.lane_of disk.old) (D.lane_of disk.new) }
         ensures lanes { (result ≢ Err WorldFault.Memory) → LanesFit (D.lane_of disk.new) self.new }
     {
@@ -243,8 +237,7 @@ impl World {
         ensures stays { Stays self.old self.new }
         ensures fits { IsWorld self.new }
         ensures sound { StaysSound self.old self.new result }
-        ensures disk { UsesDisk (D.faultless disk.old) (D.faultless disk.new) (D.faults disk.old)
-            (D.stops disk.old) (D.faults disk.new) (D.stops disk.new) result }
+        ensures disk { TakesDisk D.faultless D.faults D.stops disk.old disk.new result }
         // At every moment since the crash the lanes of the broker hold what it has left
         ensures touches { (disk.new ≡ disk.old)
             ⊎ TouchesLanes self.old.topo b (D.lane_of disk.old) (D.lane_of disk.new) }

@@ -2,10 +2,10 @@
 
 ghost use Rattle.std.specs.Prelude.{◌≡◌, ℕ, ◌<◌};
 ghost use Rattle.gr_out.specs.Lane.{stop_at};
-ghost use Rattle.gr_out.specs.Stops.{StaysFaultless};
 ghost use Rattle.gr_publog.specs.Views.{lanes_at, AwayFrom};
 ghost use Rattle.gr_broker.specs.Lanes.{log_lane, either_stopped};
 ghost use Rattle.gr_world.specs.Lanes.{AreReserved, with_stops, crashed_lanes};
+ghost use Rattle.gr_world.specs.Disk.{KeepsCounts};
 
 use gr_broker::log_lane;
 use gr_out::SimDisk;
@@ -17,10 +17,7 @@ pub(crate) fn stop_both<D: SimDisk>(disk: &mut D, publisher: u16, calls: u8, pic
     ensures both { lanes_at (D.lane_of disk.new) (log_lane publisher)
         ≡ with_stops (stop_at calls pick) (lanes_at (D.lane_of disk.old) (log_lane publisher)) }
     ensures others { (n : ℕ) → AwayFrom (log_lane publisher) n → D.lane_of disk.new n ≡ D.lane_of disk.old n }
-    ensures faults { D.faults disk.new ≡ D.faults disk.old }
-    ensures stops { D.stops disk.new ≡ D.stops disk.old }
-    ensures faultless { StaysFaultless (D.faultless disk.old) (D.faultless disk.new)
-        (D.faults disk.old) (D.faults disk.new) }
+    ensures counts { KeepsCounts D.faultless D.faults D.stops disk.old disk.new }
 {
     let lane = log_lane(publisher);
     disk.stop_after(lane, calls, pick);
@@ -45,10 +42,7 @@ pub(crate) fn crash_both<D: SimDisk>(disk: &mut D, publisher: u16)
     ensures both { lanes_at (D.lane_of disk.new) (log_lane publisher)
         ≡ crashed_lanes (lanes_at (D.lane_of disk.old) (log_lane publisher)) }
     ensures others { (n : ℕ) → AwayFrom (log_lane publisher) n → D.lane_of disk.new n ≡ D.lane_of disk.old n }
-    ensures faults { D.faults disk.new ≡ D.faults disk.old }
-    ensures stops { D.stops disk.new ≡ D.stops disk.old }
-    ensures faultless { StaysFaultless (D.faultless disk.old) (D.faultless disk.new)
-        (D.faults disk.old) (D.faults disk.new) }
+    ensures counts { KeepsCounts D.faultless D.faults D.stops disk.old disk.new }
 {
     let lane = log_lane(publisher);
     disk.crash(lane);

@@ -8,7 +8,7 @@ ghost use Rattle.gr_topo.specs.Topology.{IsTopology, host_of};
 ghost use Rattle.gr_broker.specs.Lanes.{log_lane};
 ghost use Rattle.gr_broker.specs.Told.{log_answer};
 ghost use Rattle.gr_broker.specs.Opened.{LosesNothing};
-ghost use Rattle.gr_world.specs.Disk.{LeavesOthers};
+ghost use Rattle.gr_world.specs.Disk.{KeepsCounts, LeavesOthers};
 ghost use Rattle.gr_world.specs.Opened.{NoStops, IsFirstDamaged};
 ghost use Rattle.gr_world.specs.Lanes.{crashed_lanes};
 ghost use Rattle.gr_world.specs.Starting.{HaveStarted, HaveOpened, CrashesLanes, IsExchanged, OpensAgain, TouchesLanes};
@@ -80,10 +80,7 @@ fn crash_log<D: SimDisk>(topology: &Topology, disk: &mut D, b: u16, p: u16)
         → lanes_at (D.lane_of disk.new) (log_lane p) ≡ crashed_lanes (lanes_at (D.lane_of disk.old) (log_lane p)) }
     ensures elsewhere { host_of topology.now p ≢ b → disk.new ≡ disk.old }
     ensures others { (n : ℕ) → AwayFrom (log_lane p) n → D.lane_of disk.new n ≡ D.lane_of disk.old n }
-    ensures faults { D.faults disk.new ≡ D.faults disk.old }
-    ensures stops { D.stops disk.new ≡ D.stops disk.old }
-    ensures faultless { StaysFaultless (D.faultless disk.old) (D.faultless disk.new)
-        (D.faults disk.old) (D.faults disk.new) }
+    ensures counts { KeepsCounts D.faultless D.faults D.stops disk.old disk.new }
 {
     let _ = topology.publishers();
     if topology.host(p) == b {
@@ -95,10 +92,7 @@ fn crash_log<D: SimDisk>(topology: &Topology, disk: &mut D, b: u16, p: u16)
 fn crash_lanes<D: SimDisk>(topology: &Topology, disk: &mut D, b: u16)
     ensures crashes { CrashesLanes topology.now b (length topology.now.publishers)
         (D.lane_of disk.old) (D.lane_of disk.new) }
-    ensures faults { D.faults disk.new ≡ D.faults disk.old }
-    ensures stops { D.stops disk.new ≡ D.stops disk.old }
-    ensures faultless { StaysFaultless (D.faultless disk.old) (D.faultless disk.new)
-        (D.faults disk.old) (D.faults disk.new) }
+    ensures counts { KeepsCounts D.faultless D.faults D.stops disk.old disk.new }
 {
     'publishers: for p in 0..topology.publishers() {
         crash_log(topology, disk, b, p);

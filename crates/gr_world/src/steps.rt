@@ -4,16 +4,16 @@ ghost use Rattle.std.specs.Prelude.{◌≡◌, ◌≢◌, ◌⊎◌, ◌↔◌, 
 ghost use Rattle.std.specs.Prelude.{IsSome, IfSome, IfNone};
 ghost use Rattle.gr_out.specs.Lane.{Lane};
 ghost use Rattle.gr_sched.specs.declared.step.Step.TheVariants as step;
-ghost use Rattle.gr_topo.specs.Topology.{host_of, late_of};
+ghost use Rattle.gr_topo.specs.Topology.{late_of};
 ghost use Rattle.gr_model.specs.Net.{numbers};
 ghost use Rattle.gr_model.specs.World.{wake_for, wake_all, frame_at};
 ghost use Rattle.gr_world.specs.Seen.{net_in, world_of};
 ghost use Rattle.gr_world.specs.Of.{IsWorld, LanesFit};
 ghost use Rattle.gr_world.specs.Ran.{IsOpen, Ran};
 ghost use Rattle.gr_world.specs.Steps.{Makes, Does, Refuses, Spends, Stays, refused_at};
-ghost use Rattle.gr_world.specs.Stopped.{broken_in};
+ghost use Rattle.gr_world.specs.Stopped.{LeavesAtFault};
 ghost use Rattle.gr_world.specs.Disk.{StaysSound, IsClosed, IsBarred, IsBarredJoin, BarsWake, ReopensWhere};
-ghost use Rattle.gr_world.specs.Disk.{IsIdle, UsesDisk};
+ghost use Rattle.gr_world.specs.Disk.{IsIdle, TakesDisk};
 ghost use Rattle.gr_world.specs.Moments.{CallsLanes};
 ghost use Rattle.gr_world.specs.Ended.{IsEnd, WakeEnds, EndsAt};
 ghost use Rattle.gr_world.specs.Fits.{GoesOn};
@@ -46,17 +46,14 @@ impl World {
         ensures refused { Refuses (step.Publish p number None event.now) self.old self.new result }
         ensures memory { Spends self.old self.new result }
         ensures closed { self.old.spent ≡ false → IsClosed self.old self.new result }
-        // `Reopen` exactly where a broker is down, or the disk has failed the log; nothing has changed then
+        ensures left { LeavesAtFault p self.old self.new disk.old disk.new result }
+        // `Reopen` exactly where a broker is down, or the disk has failed the log
         ensures reopen { self.old.spent ≡ false → (IsErrOf result WorldFault.Reopen
             ↔ (IsSome self.old.down ⊎ IsBarred self.old p number event.now)) }
-        ensures unchanged { IsErrOf result WorldFault.Reopen → (self.new ≡ self.old) × (disk.new ≡ disk.old) }
-        // Where the disk fails, the log is broken and all else stands
-        ensures failed { IsErrOf result WorldFault.Disk → self.new ≡ broken_in self.old (host_of self.old.topo p) p }
         ensures stays { Stays self.old self.new }
         ensures fits { IsWorld self.new }
         ensures sound { StaysSound self.old self.new result }
-        ensures disk { UsesDisk (D.faultless disk.old) (D.faultless disk.new) (D.faults disk.old)
-            (D.stops disk.old) (D.faults disk.new) (D.stops disk.new) result }
+        ensures disk { TakesDisk D.faultless D.faults D.stops disk.old disk.new result }
         ensures calls { CallsLanes self.old.topo (D.lane_of disk.old) (D.lane_of disk.new) }
         ensures idle { IsIdle self.old (step.Publish p number None event.now) → disk.new ≡ disk.old }
         ensures lanes { LanesFit (D.lane_of disk.new) self.new }
@@ -88,17 +85,14 @@ impl World {
         ensures refused { Refuses (step.Join s p) self.old self.new result }
         ensures memory { Spends self.old self.new result }
         ensures closed { self.old.spent ≡ false → IsClosed self.old self.new result }
-        // `Reopen` exactly where a broker is down, or the disk has failed the log; nothing has changed then
+        ensures left { LeavesAtFault p self.old self.new disk.old disk.new result }
+        // `Reopen` exactly where a broker is down, or the disk has failed the log
         ensures reopen { self.old.spent ≡ false → (IsErrOf result WorldFault.Reopen
             ↔ (IsSome self.old.down ⊎ IsBarredJoin self.old p s)) }
-        ensures unchanged { IsErrOf result WorldFault.Reopen → (self.new ≡ self.old) × (disk.new ≡ disk.old) }
-        // Where the disk fails, the log is broken and all else stands
-        ensures failed { IsErrOf result WorldFault.Disk → self.new ≡ broken_in self.old (host_of self.old.topo p) p }
         ensures stays { Stays self.old self.new }
         ensures fits { IsWorld self.new }
         ensures sound { StaysSound self.old self.new result }
-        ensures disk { UsesDisk (D.faultless disk.old) (D.faultless disk.new) (D.faults disk.old)
-            (D.stops disk.old) (D.faults disk.new) (D.stops disk.new) result }
+        ensures disk { TakesDisk D.faultless D.faults D.stops disk.old disk.new result }
         ensures calls { CallsLanes self.old.topo (D.lane_of disk.old) (D.lane_of disk.new) }
         ensures idle { IsIdle self.old (step.Join s p) → disk.new ≡ disk.old }
         ensures lanes { LanesFit (D.lane_of disk.new) self.new }
@@ -140,8 +134,7 @@ impl World {
         ensures stays { Stays self.old self.new }
         ensures fits { IsWorld self.new }
         ensures sound { StaysSound self.old self.new result }
-        ensures disk { UsesDisk (D.faultless disk.old) (D.faultless disk.new) (D.faults disk.old)
-            (D.stops disk.old) (D.faults disk.new) (D.stops disk.new) result }
+        ensures disk { TakesDisk D.faultless D.faults D.stops disk.old disk.new result }
         ensures calls { CallsLanes self.old.topo (D.lane_of disk.old) (D.lane_of disk.new) }
         ensures idle { IsIdle self.old (step.Wake b) → disk.new ≡ disk.old }
         ensures lanes { LanesFit (D.lane_of disk.new) self.new }
@@ -168,8 +161,7 @@ impl World {
         ensures ends { IsEnd result
             → EndsAt (λ u p. wake_for (net_in self.old) u b p) (λ p. WakeEnds b p result)
             (numbers (length self.old.topo.publishers)) self.old self.new }
-        ensures disk { UsesDisk (D.faultless disk.old) (D.faultless disk.new)
-            (D.faults disk.old) (D.stops disk.old) (D.faults disk.new) (D.stops disk.new) result }
+        ensures disk { TakesDisk D.faultless D.faults D.stops disk.old disk.new result }
         ensures calls { CallsLanes self.old.topo (D.lane_of disk.old) (D.lane_of disk.new) }
         ensures lanes { LanesFit (D.lane_of disk.new) self.new }
     {

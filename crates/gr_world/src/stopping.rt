@@ -18,7 +18,7 @@ ghost use Rattle.gr_world.specs.Of.{IsWorld, LaneFits, IsReadable, LanesFit, IsS
 ghost use Rattle.gr_world.specs.Opened.{IsLeft};
 ghost use Rattle.gr_world.specs.Ran.{IsOpen, Ran};
 ghost use Rattle.gr_world.specs.Steps.{Makes, Refuses, Spends, Stays, Does, IsCarried, NotMemory, refused_at};
-ghost use Rattle.gr_world.specs.Disk.{Counts, StaysSound, IsClosed, IsBarred, IsIdle, UsesDisk};
+ghost use Rattle.gr_world.specs.Disk.{Counts, StaysSound, IsClosed, IsBarred, IsIdle, TakesDisk};
 ghost use Rattle.gr_world.specs.Starting.{TouchesLanes};
 ghost use Rattle.gr_world.specs.Moments.{CallsLanes, StopsLanes};
 ghost use Rattle.gr_world.specs.Fits.{GoesOn};
@@ -146,8 +146,7 @@ impl World {
         ensures stays { Stays self.old self.new }
         ensures fits { IsWorld self.new }
         ensures sound { NotMemory result → StaysSound self.old self.new result }
-        ensures disk { UsesDisk (D.faultless disk.old) (D.faultless disk.new) (D.faults disk.old)
-            (D.stops disk.old) (D.faults disk.new) (D.stops disk.new) result }
+        ensures disk { TakesDisk D.faultless D.faults D.stops disk.old disk.new result }
         // The lanes are called as by a publish, and where it was stopped the host crashes and starts again behind that
         ensures calls { let host = host_of self.old.topo p in
             StopsLanes self.old.topo host (D.lane_of disk.old) (D.lane_of disk.new) }
@@ -178,9 +177,9 @@ impl World {
         event: &Event,
         stop: &Stop,
     ) -> Result<Reports, WorldFault>
+        requires host { host ≡ host_of self.old.topo p }
         requires fits { IsWorld self.old }
         requires publisher { p < length self.old.topo.publishers }
-        requires host { host ≡ host_of self.old.topo p }
         requires broker { host < length self.old.topo.brokers }
         requires no_subscriber { not_empty (subscribers_of self.old.topo host) ≡ false }
         requires open { IsOpen self.old }
@@ -200,8 +199,7 @@ impl World {
         ensures unchanged { IsErrOf result WorldFault.Reopen → self.new ≡ self.old }
         ensures failed { IsErrOf result WorldFault.Disk → BreaksStopped host p self.old self.new }
         ensures carried { IsCarried result }
-        ensures disk { UsesDisk (D.faultless disk.old) (D.faultless disk.new) (D.faults disk.old)
-            (D.stops disk.old) (D.faults disk.new) (D.stops disk.new) result }
+        ensures disk { TakesDisk D.faultless D.faults D.stops disk.old disk.new result }
         ensures calls { StopsLanes self.old.topo host (D.lane_of disk.old) (D.lane_of disk.new) }
         ensures lanes { result ≢ Err WorldFault.Memory → LanesFit (D.lane_of disk.new) self.new }
     {

@@ -11,7 +11,7 @@ ghost use Rattle.gr_world.specs.Seen.{net_in, world_of};
 ghost use Rattle.gr_world.specs.Of.{IsWorld, LanesFit};
 ghost use Rattle.gr_world.specs.Steps.{Makes, Refuses, Spends, Stays, Does, refused_at};
 ghost use Rattle.gr_world.specs.Ran.{IsOpen, Ran};
-ghost use Rattle.gr_world.specs.Disk.{StaysSound, IsClosed, IsWakeBarred, HasBroken, ReopensWhere, IsIdle, UsesDisk};
+ghost use Rattle.gr_world.specs.Disk.{StaysSound, IsClosed, IsWakeBarred, HasBroken, ReopensWhere, IsIdle, TakesDisk};
 ghost use Rattle.gr_world.specs.Moments.{CallsLanes};
 ghost use Rattle.gr_world.specs.Ended.{IsEnd, WakeEnds, EndsAt, WakesEnd, PhasesEnd, SweepEnds};
 ghost use Rattle.gr_world.specs.Fits.{Fits, GoesOn, SettlesAll};
@@ -104,8 +104,7 @@ impl World {
         ensures ran { Ran self.old self.new result }
         ensures bars { IsWakeBarred self.old b p → IsErrOf result WorldFault.Reopen }
         ensures ends { IsEnd result → WakeEnds b p result self.old self.new }
-        ensures disk { UsesDisk (D.faultless disk.old) (D.faultless disk.new) (D.faults disk.old)
-            (D.stops disk.old) (D.faults disk.new) (D.stops disk.new) result }
+        ensures disk { TakesDisk D.faultless D.faults D.stops disk.old disk.new result }
         ensures calls { CallsLanes self.old.topo (D.lane_of disk.old) (D.lane_of disk.new) }
         ensures lanes { LanesFit (D.lane_of disk.new) self.new }
     {
@@ -134,8 +133,7 @@ impl World {
         ensures ran { Ran self.old self.new result }
         ensures bars { IsDue self.old p → HasHost self.old p brokers.now → IsErr result }
         ensures ends { IsEnd result → WakesEnd (net_in self.old) p brokers.now result self.old self.new }
-        ensures disk { UsesDisk (D.faultless disk.old) (D.faultless disk.new) (D.faults disk.old)
-            (D.stops disk.old) (D.faults disk.new) (D.stops disk.new) result }
+        ensures disk { TakesDisk D.faultless D.faults D.stops disk.old disk.new result }
         ensures calls { CallsLanes self.old.topo (D.lane_of disk.old) (D.lane_of disk.new) }
         ensures lanes { LanesFit (D.lane_of disk.new) self.new }
     {
@@ -189,8 +187,7 @@ impl World {
         ensures ran { Ran self.old self.new result }
         ensures bars { IsDue self.old p → HasHost self.old p inwards.now → IsErr result }
         ensures ends { IsEnd result → PhasesEnd (net_in self.old) p inwards.now outwards.now result self.old self.new }
-        ensures disk { UsesDisk (D.faultless disk.old) (D.faultless disk.new) (D.faults disk.old)
-            (D.stops disk.old) (D.faults disk.new) (D.stops disk.new) result }
+        ensures disk { TakesDisk D.faultless D.faults D.stops disk.old disk.new result }
         ensures calls { CallsLanes self.old.topo (D.lane_of disk.old) (D.lane_of disk.new) }
         ensures lanes { LanesFit (D.lane_of disk.new) self.new }
     {
@@ -218,8 +215,7 @@ impl World {
         ensures ran { Ran self.old self.new result }
         ensures bars { IsDue self.old p → IsErr result }
         ensures ends { IsEnd result → SweepEnds (net_in self.old) result p self.old self.new }
-        ensures disk { UsesDisk (D.faultless disk.old) (D.faultless disk.new) (D.faults disk.old)
-            (D.stops disk.old) (D.faults disk.new) (D.stops disk.new) result }
+        ensures disk { TakesDisk D.faultless D.faults D.stops disk.old disk.new result }
         ensures calls { CallsLanes self.old.topo (D.lane_of disk.old) (D.lane_of disk.new) }
         ensures lanes { LanesFit (D.lane_of disk.new) self.new }
     {
@@ -241,14 +237,13 @@ impl World {
         requires fits { IsWorld self.old }
         requires open { IsOpen self.old }
         requires lanes { LanesFit (D.lane_of disk.old) self.old }
-        ensures does { let net = net_in self.old in
-            Does (in_turn (sweep_for net) (numbers net.publishers) (world_of self.old)) self.new result }
         ensures ran { Ran self.old self.new result }
         ensures bars { (p : ℕ) → p < length self.old.topo.publishers → IsDue self.old p → IsErr result }
+        ensures does { let net = net_in self.old in
+            Does (in_turn (sweep_for net) (numbers net.publishers) (world_of self.old)) self.new result }
         ensures ends { let net = net_in self.old in IsEnd result
             → EndsAt (sweep_for net) (SweepEnds net result) (numbers net.publishers) self.old self.new }
-        ensures disk { UsesDisk (D.faultless disk.old) (D.faultless disk.new) (D.faults disk.old)
-            (D.stops disk.old) (D.faults disk.new) (D.stops disk.new) result }
+        ensures disk { TakesDisk D.faultless D.faults D.stops disk.old disk.new result }
         ensures calls { CallsLanes self.old.topo (D.lane_of disk.old) (D.lane_of disk.new) }
         ensures lanes { LanesFit (D.lane_of disk.new) self.new }
     {
@@ -268,13 +263,12 @@ impl World {
         requires fits { IsWorld self.old }
         requires open { IsOpen self.old }
         requires lanes { LanesFit (D.lane_of disk.old) self.old }
-        ensures does { Does (swept (net_in self.old) (world_of self.old) moment) self.new result }
         ensures ran { Ran self.old self.new result }
         ensures bars { (p : ℕ) → p < length self.old.topo.publishers → IsDue self.old p → IsErr result }
+        ensures does { Does (swept (net_in self.old) (world_of self.old) moment) self.new result }
         ensures ends { let net = net_in self.old in IsEnd result
             → EndsAt (sweep_for net) (SweepEnds net result) (numbers net.publishers) self.old self.new }
-        ensures disk { UsesDisk (D.faultless disk.old) (D.faultless disk.new) (D.faults disk.old)
-            (D.stops disk.old) (D.faults disk.new) (D.stops disk.new) result }
+        ensures disk { TakesDisk D.faultless D.faults D.stops disk.old disk.new result }
         ensures calls { CallsLanes self.old.topo (D.lane_of disk.old) (D.lane_of disk.new) }
         ensures lanes { LanesFit (D.lane_of disk.new) self.new }
     {
@@ -322,8 +316,7 @@ impl World {
         ensures stays { Stays self.old self.new }
         ensures fits { IsWorld self.new }
         ensures sound { StaysSound self.old self.new result }
-        ensures disk { UsesDisk (D.faultless disk.old) (D.faultless disk.new) (D.faults disk.old)
-            (D.stops disk.old) (D.faults disk.new) (D.stops disk.new) result }
+        ensures disk { TakesDisk D.faultless D.faults D.stops disk.old disk.new result }
         ensures idle { IsIdle self.old step.Sweep → disk.new ≡ disk.old }
         ensures calls { CallsLanes self.old.topo (D.lane_of disk.old) (D.lane_of disk.new) }
         ensures lanes { LanesFit (D.lane_of disk.new) self.new }

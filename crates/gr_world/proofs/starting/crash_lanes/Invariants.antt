@@ -1,5 +1,4 @@
-use Rattle.std.proofs.Common.{◌≡◌}
-use Rattle.gr_out.specs.Stops.{StaysFaultless}
+use Rattle.gr_world.specs.Disk.{KeepsCounts}
 use Rattle.gr_world.specs.Starting.{CrashesLanes}
 use Rattle.gr_world.proofs.starting.crash_lanes.Given as goal
 
@@ -7,7 +6,5 @@ use Rattle.gr_world.proofs.starting.crash_lanes.Given as goal
 abbrev pub invariant-publishers : goal.invariant-publishers
 invariant-publishers g l = record {
   crashes : CrashesLanes l.topology l.b l.p (g.D.Disk.lane_of l.initial.disk) (g.D.Disk.lane_of l.disk);
-  faults : g.D.Disk.faults l.disk ≡ g.D.Disk.faults l.initial.disk;
-  stops : g.D.Disk.stops l.disk ≡ g.D.Disk.stops l.initial.disk;
-  faultless : StaysFaultless (g.D.Disk.faultless l.initial.disk) (g.D.Disk.faultless l.disk) (g.D.Disk.faults l.initial.disk) (g.D.Disk.faults l.disk);
+  counts : KeepsCounts g.D.Disk.faultless g.D.Disk.faults g.D.Disk.stops l.initial.disk l.disk;
 }

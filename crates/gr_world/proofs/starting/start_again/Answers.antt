@@ -34,5 +34,5 @@ returns-in-Err-clause-never_fails g c = λ faultless e.
     let t = c.args.topology.now in
     let mid = g.D.Disk.lane_of c.crash_lanes.new.disk in
     let never : g.D.Disk.faultless c.crash_lanes.new.disk → ((p : ℕ) → p < length t.publishers → is_host (net_of t) p c.args.b ≡ true → AreUnset (lanes_at mid (log_lane p))) → c.in-Err.fault ≢ refused.Disk = λ f u h. c.in-Err.ensures.never_fails g.met.D.SimDisk.told f u (ap (λ x. Err x) h) in
-    never (c.crash_lanes.ensures.faultless.stays faultless)
+    never (c.crash_lanes.ensures.counts.faultless_stays.stays faultless)
     (unset_crashed t c.args.b (g.D.Disk.lane_of c.args.disk.now) mid (g.D.Disk.lane_of c.start.new.disk) c.crash_lanes.ensures.crashes) (err_is c.in-Err.fault refused.Disk e)

@@ -26,17 +26,17 @@ returns-clause-fits g c =
     let one = c.join_at_host-answer in
     fits_noted one.new.self c.noted.new.self one.result c.noted.ensures.view one.ensures.ran.fits
 
-pub returns-clause-unchanged : goal.returns-clause-unchanged
-returns-clause-unchanged g c = λ h.
+pub returns-clause-left : goal.returns-clause-left
+returns-clause-left g c =
     let one = c.join_at_host-answer in
-    let at = noted_closed one.new.self c.noted.new.self one.result c.noted.result c.noted.ensures.answer c.noted.ensures.view h in
-    let same = one.ensures.unchanged at.0 in (at.1 ∙ same.0, same.1)
-
-pub returns-clause-failed : goal.returns-clause-failed
-returns-clause-failed g c = λ h.
-    let one = c.join_at_host-answer in
-    let at = noted_failed one.new.self c.noted.new.self one.result c.noted.result c.noted.ensures.answer c.noted.ensures.view h in
-    at.1 ∙ one.ensures.failed at.0
+    record {
+      unchanged = λ h.
+          let at = noted_closed one.new.self c.noted.new.self one.result c.noted.result c.noted.ensures.answer c.noted.ensures.view h in
+          let same = one.ensures.left.unchanged at.0 in (at.1 ∙ same.0, same.1);
+      failed = λ h.
+          let at = noted_failed one.new.self c.noted.new.self one.result c.noted.result c.noted.ensures.answer c.noted.ensures.view h in
+          at.1 ∙ one.ensures.left.failed at.0;
+    }
 
 pub returns-clause-goes_on : goal.returns-clause-goes_on
 returns-clause-goes_on g c =

@@ -76,17 +76,17 @@ returns-clause-reopen g c =
     reopens_join (the_view c.self.inside) c.args.self.now c.host-host.result c.args.p c.args.s c.index_mut-broker.result.now c.join-answer.new.self c.take_answer.new.frames
     c.join-answer.result c.take_answer.result (site g c) (sym c.host-host.ensures.host) c.every_topology_is_a_tree.ensures.tree c.requires.late (gives g c) c.take_answer.ensures.follows c.take_answer.ensures.takes
 
-pub returns-clause-unchanged : goal.returns-clause-unchanged
-returns-clause-unchanged g c = λ h. (
-  unchanged_join (the_view c.self.inside) c.args.self.now c.host-host.result c.args.p c.args.s c.index_mut-broker.result.now c.join-answer.new.self c.take_answer.new.frames
-      c.join-answer.result c.take_answer.result (site g c) (sym c.host-host.ensures.host) c.every_topology_is_a_tree.ensures.tree c.requires.late (gives g c) c.take_answer.ensures.follows c.take_answer.ensures.takes h,
-  c.join-answer.ensures.uses.disk.idle (ap log_answer (reopen_follows c.join-answer.result c.take_answer.result c.take_answer.ensures.follows h)),
-)
-
-pub returns-clause-failed : goal.returns-clause-failed
-returns-clause-failed g c =
-    failed_join (the_view c.self.inside) c.args.self.now c.host-host.result c.args.p c.args.s c.index_mut-broker.result.now c.join-answer.new.self c.take_answer.new.frames
-    c.join-answer.result c.take_answer.result (site g c) (sym c.host-host.ensures.host) c.every_topology_is_a_tree.ensures.tree c.requires.late (gives g c) c.take_answer.ensures.follows c.take_answer.ensures.takes
+pub returns-clause-left : goal.returns-clause-left
+returns-clause-left g c = record {
+  unchanged = λ h. (
+    unchanged_join (the_view c.self.inside) c.args.self.now c.host-host.result c.args.p c.args.s c.index_mut-broker.result.now c.join-answer.new.self c.take_answer.new.frames
+        c.join-answer.result c.take_answer.result (site g c) (sym c.host-host.ensures.host) c.every_topology_is_a_tree.ensures.tree c.requires.late (gives g c) c.take_answer.ensures.follows c.take_answer.ensures.takes h,
+    c.join-answer.ensures.uses.disk.idle (ap log_answer (reopen_follows c.join-answer.result c.take_answer.result c.take_answer.ensures.follows h)),
+  );
+  failed =
+      failed_join (the_view c.self.inside) c.args.self.now c.host-host.result c.args.p c.args.s c.index_mut-broker.result.now c.join-answer.new.self c.take_answer.new.frames
+      c.join-answer.result c.take_answer.result (site g c) (sym c.host-host.ensures.host) c.every_topology_is_a_tree.ensures.tree c.requires.late (gives g c) c.take_answer.ensures.follows c.take_answer.ensures.takes;
+}
 
 pub returns-clause-disk : goal.returns-clause-disk
 returns-clause-disk g c =

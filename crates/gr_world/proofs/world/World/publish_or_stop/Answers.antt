@@ -64,7 +64,7 @@ returns-in-Ok-None-clause-ran g c =
     (subst (λ (m : WorldView). StopRestarts c.args.host m c.start_stopped.new.self c.start_stopped.result) is c.start_stopped.ensures.ran)
 
 pub returns-in_default-clause-failed : goal.returns-in_default-clause-failed
-returns-in_default-clause-failed g c = λ e. inl (c.publish_at_host.ensures.failed e ∙ ap (λ b. broken_in c.args.self.now b c.args.p) (sym c.requires.host))
+returns-in_default-clause-failed g c = λ e. inl (c.publish_at_host.ensures.left.failed e ∙ ap (λ b. broken_in c.args.self.now b c.args.p) (sym c.requires.host))
 
 pub returns-in-Ok-None-clause-reopen : goal.returns-in-Ok-None-clause-reopen
 returns-in-Ok-None-clause-reopen g c =
