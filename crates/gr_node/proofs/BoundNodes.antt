@@ -31,9 +31,9 @@ pub failed_moves : {T U : Type 0} (before middle after : ℕ) (f : PostFault) (r
     → CountsFailed {T = T} middle after (Err f) → PostMoves {T = U} before after (Err r)
 failed_moves before middle after fault.Failed r s same c =
     let rose : Rose before after = subst (λ n. Rose n after) same (c.failed refl) in
-    record { never_falls = omega (arith, same, c.never_falls); same = tt; rose = λ e. rose }
+    record { never_falls = omega (arith, same, c.never_falls); same = λ n. absurd (n (ap (λ x. Err x) (s.failed refl))); rose = λ e. rose }
 failed_moves before middle after fault.Memory r s same c =
-    record { never_falls = omega (arith, same, c.never_falls); same = tt; rose = λ e. absurd (apart (s.memory refl) e) }
+    record { never_falls = omega (arith, same, c.never_falls); same = λ n. c.same (λ e. cc) ∙ same; rose = λ e. absurd (apart (s.memory refl) e) }
   where
     apart : {V : Type 0} → r ≡ run.Memory → ◌≡◌ {A = Result V RunFault} (Err r) (Err run.Post) → ⊥
     apart h e = cc
@@ -224,7 +224,7 @@ client_here t hosted p node address some here is =
 
 -- they stay, and then they move
 pub moves_on : {T U : Type 0} (before middle after : ℕ) (x : U) (r : Result T RunFault) → PostMoves {T = U} before middle (Ok x) → PostMoves {T = T} middle after r → PostMoves {T = T} before after r
-moves_on {T} before middle after x r a b = subst (λ n. PostMoves {T = T} n after r) a.same b
+moves_on {T} before middle after x r a b = subst (λ n. PostMoves {T = T} n after r) (a.same (λ e. cc)) b
 
 -- and in a loop from where they stood before
 pub moves_from : {T : Type 0} (before middle after : ℕ) (e : RunFault) → middle ≡ before → PostMoves {T = T} middle after (Err e) → PostMoves {T = T} before after (Err e)

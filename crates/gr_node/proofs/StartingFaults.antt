@@ -3,7 +3,7 @@ use Rattle.std.proofs.Common.{◌≡◌, ◌≢◌, ℕ, ◌<◌, List, length, 
 use Rattle.gr_out.specs.declared.fault.RunFault.{RunFault}
 use Rattle.gr_out.specs.declared.fault.RunFault.TheVariants as run
 use Rattle.gr_out.specs.Faults.{Rose}
-use Rattle.gr_publog.specs.Crash.{EitherRose}
+use Rattle.gr_publog.specs.Crash.{EitherRose, NotFailed}
 use Rattle.gr_publog.specs.Calls.{Tally}
 use Rattle.gr_topo.specs.Topology.{TopologyView}
 use Rattle.gr_model.specs.declared.report.Report.{Report}
@@ -64,10 +64,16 @@ pub moves_failed : {T U : Type 0} (f : BrokerFault) (faults stops faults' stops'
 moves_failed {T} {U} f faults stops faults' stops' never a = record {
   faults_never_fall = a.faults_never_fall;
   stops_never_fall = a.stops_never_fall;
-  same = tt;
+  same = λ n w m. a.same (not_failed f n);
   rose = λ e. a.rose (ap (λ x. Err (log_fault x)) (disk_in f never (err_is (start_fault f) run.Disk e)));
 }
   where
+    not_failed : (f : BrokerFault) → ◌≢◌ {A = Result U RunFault} (Err (start_fault f)) (Err run.Disk) → NotFailed {T = T} (Err (log_fault f))
+    not_failed refused.Memory n = tt
+    not_failed refused.Disk n = absurd (n refl)
+    not_failed refused.Reopen n = absurd (n refl)
+    not_failed (refused.Damaged p at) n = tt
+
     disk_in : (f : BrokerFault) → f ≢ refused.Reopen → start_fault f ≡ run.Disk → f ≡ refused.Disk
     disk_in refused.Memory n e = absurd (is_disk run.Memory e)
     disk_in refused.Disk n e = refl
@@ -79,7 +85,7 @@ pub moves_well : {T U : Type 0} (x : T) (y : U) (faults stops faults' stops' : �
 moves_well x y faults stops faults' stops' a = record {
   faults_never_fall = a.faults_never_fall;
   stops_never_fall = a.stops_never_fall;
-  same = a.same tt;
+  same = λ n w m. a.same tt;
   rose = λ e. cc;
 }
 
@@ -101,7 +107,7 @@ pub none_moved : {T : Type 0} (x : T) (faults stops faults' stops' : ℕ) → fa
 none_moved x faults stops faults' stops' same same' = record {
   faults_never_fall = omega (arith, same);
   stops_never_fall = omega (arith, same');
-  same = (same, same');
+  same = λ n w m. (same, same');
   rose = λ e. cc;
 }
 
@@ -110,7 +116,7 @@ pub still_moved : {T : Type 0} (e : RunFault) (faults stops faults' stops' : ℕ
 still_moved {T} e faults stops faults' stops' put same same' = record {
   faults_never_fall = omega (arith, same);
   stops_never_fall = omega (arith, same');
-  same = tt;
+  same = λ n w m. (same, same');
   rose = λ is. absurd (subst (λ (x : RunFault). IsPutFault x) (err_is e run.Disk is) put);
 }
 
@@ -119,9 +125,12 @@ pub moved_from : {T U : Type 0} (e : RunFault) (faults stops faults' stops' faul
 moved_from e faults stops faults' stops' faults'' stops'' same same' m = record {
   faults_never_fall = let up = m.faults_never_fall in omega (arith, same, up);
   stops_never_fall = let up = m.stops_never_fall in omega (arith, same', up);
-  same = tt;
+  same = λ n w k. still (m.same (λ is. n (same_fault e run.Disk is)) (λ is. w (same_fault e run.Write is)) (λ is. k (same_fault e run.Memory is)));
   rose = λ is. subst (λ (x : ℕ). EitherRose x faults'' stops stops'') same (subst (λ (x : ℕ). EitherRose faults' faults'' x stops'') same' (m.rose (same_fault e run.Disk is)));
 }
+  where
+    still : (faults'' ≡ faults') × (stops'' ≡ stops') → (faults'' ≡ faults) × (stops'' ≡ stops)
+    still k = (k.0 ∙ same, k.1 ∙ same')
 
 -- the sink's count too
 pub sink_kept : {T : Type 0} (x : T) (faults faults' : ℕ) → faults' ≡ faults → SinkMoves {T = T} faults faults' (Ok x)

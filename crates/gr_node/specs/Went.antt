@@ -97,17 +97,19 @@ pub record SinkMoves {T : Type 0} (faults faults' : ℕ) (result : Result T RunF
   pub rose : IsErrOf result run.Write → Rose faults faults'
   pub same : result ≢ Err run.Write → faults' ≡ faults
 
--- the disk's two: neither falls, one has risen where the answer is that the disk failed, and both stay after Ok
+-- the disk's two: neither falls, one has risen where the answer is that the disk failed, and both stay where it is
+-- anything else; but Write and Memory may stand in the place of Disk, where lines could not be written then
 pub record DiskMoves {T : Type 0} (faults stops faults' stops' : ℕ) (result : Result T RunFault) : Type 0 where
   pub faults_never_fall : faults ≤ faults'
   pub stops_never_fall : stops ≤ stops'
-  pub same : OnOk result ((faults' ≡ faults) × (stops' ≡ stops))
+  pub same : result ≢ Err run.Disk → result ≢ Err run.Write → result ≢ Err run.Memory
+      → (faults' ≡ faults) × (stops' ≡ stops)
   pub rose : IsErrOf result run.Disk → EitherRose faults faults' stops stops'
 
--- the post's: it has risen where the answer is that the post failed, and stays after Ok
+-- the post's: it has risen where the answer is that the post failed, and stays where it is anything else
 pub record PostMoves {T : Type 0} (faults faults' : ℕ) (result : Result T RunFault) : Type 0 where
   pub never_falls : faults ≤ faults'
-  pub same : OnOk result (faults' ≡ faults)
+  pub same : result ≢ Err run.Post → faults' ≡ faults
   pub rose : IsErrOf result run.Post → Rose faults faults'
 
 -- A broker's call was made, before its lines are put and its frames offered: with them it is the node's act

@@ -28,7 +28,7 @@ brokers-preserved g c =
     record {
       bound = bound_more t c.args.site.now.hosted.now g.P.Post.tells _ _ _ _ _ _ _ _ (brokers_more t c.brokers.b (omega (arith, c.brokers-test.true, c.brokers-b-end.ensures.count)))
           c.brokers.invariant.bound c.in-Ok.ensures.bound;
-      faults = c.in-Ok.ensures.moves.same ∙ c.brokers.invariant.faults;
+      faults = c.in-Ok.ensures.moves.same (λ e. cc) ∙ c.brokers.invariant.faults;
     }
 
 pub returns-clause-bound : goal.returns-clause-bound

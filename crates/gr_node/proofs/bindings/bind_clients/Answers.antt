@@ -23,7 +23,7 @@ publishers-preserved g c =
     record {
       bound = bound_more t c.args.site.now.hosted.now g.P.Post.tells _ _ _ _ _ _ _ _ (clients_more t c.args.site.now.hosted.now c.publishers.p (omega (arith, c.publishers-test.true, c.publishers-p-end.ensures.count)))
           c.publishers.invariant.bound c.in-Ok.ensures.bound;
-      faults = c.in-Ok.ensures.moves.same ∙ c.publishers.invariant.faults;
+      faults = c.in-Ok.ensures.moves.same (λ e. cc) ∙ c.publishers.invariant.faults;
     }
 
 pub returns-clause-bound : goal.returns-clause-bound

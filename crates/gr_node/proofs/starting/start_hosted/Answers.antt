@@ -50,8 +50,8 @@ brokers-preserved g c =
       put = put_next t hosted i n c.requires.hosted c.brokers-test.true sofar.begun (g.K.Sink.taken c.args.sink.now) (g.K.Sink.taken c.brokers.sink) c.args.page.now.held c.brokers.page.held sofar.put (g.K.Sink.taken c.put_heard.new.sink)
           x os c.in-Ok.ensures.begun c.as_slice.result.now (c.as_slice.ensures ∙ c.in-Ok.ensures.lines) c.put_heard.new.page.held c.in-Ok-put_heard.ensures.ok;
       heard = heard_next t hosted i n c.requires.hosted c.brokers-test.true sofar.begun x os c.as_slice.result.now (c.as_slice.ensures ∙ c.in-Ok.ensures.lines) sofar.heard c.in-Ok-put_heard.ensures.heard;
-      faults = c.in-Ok.ensures.disk.same.0 ∙ sofar.faults;
-      stops = c.in-Ok.ensures.disk.same.1 ∙ sofar.stops;
+      faults = (c.in-Ok.ensures.disk.same (λ e. cc) (λ e. cc) (λ e. cc)).0 ∙ sofar.faults;
+      stops = (c.in-Ok.ensures.disk.same (λ e. cc) (λ e. cc) (λ e. cc)).1 ∙ sofar.stops;
       same = c.in-Ok-put_heard.ensures.puts.sink_moves.same (λ e. cc) ∙ sofar.same;
     }
 
@@ -227,7 +227,7 @@ returns-in-Err-put_heard-clause-others g c = λ tells.
 pub returns-in-Err-put_heard-clause-disk : goal.returns-in-Err-put_heard-clause-disk
 returns-in-Err-put_heard-clause-disk g c =
     still_moved c.in-Err-put_heard.fault (g.D.Disk.faults c.args.disk.now) (g.D.Disk.stops c.args.disk.now) (g.D.Disk.faults c.start_one.new.disk) (g.D.Disk.stops c.start_one.new.disk)
-    c.in-Err-put_heard.ensures.puts.cause (c.in-Ok.ensures.disk.same.0 ∙ c.brokers.invariant.faults) (c.in-Ok.ensures.disk.same.1 ∙ c.brokers.invariant.stops)
+    c.in-Err-put_heard.ensures.puts.cause ((c.in-Ok.ensures.disk.same (λ e. cc) (λ e. cc) (λ e. cc)).0 ∙ c.brokers.invariant.faults) ((c.in-Ok.ensures.disk.same (λ e. cc) (λ e. cc) (λ e. cc)).1 ∙ c.brokers.invariant.stops)
 
 pub returns-in-Err-put_heard-clause-sink : goal.returns-in-Err-put_heard-clause-sink
 returns-in-Err-put_heard-clause-sink g c = sink_asked c.in-Err-put_heard.fault (g.K.Sink.faults c.args.sink.now) (g.K.Sink.faults c.brokers.sink) (g.K.Sink.faults c.put_heard.new.sink) c.brokers.invariant.same c.in-Err-put_heard.ensures.puts.sink_moves.rose c.in-Err-put_heard.ensures.puts.sink_moves.same

@@ -33,8 +33,8 @@ publishers-preserved g c =
       serving = c.in-Ok.ensures.serving;
       others = λ tells lane here. k.others tells lane here ∙ i.others tells lane here;
       kept = λ tells. kept_more c.args.site.now.topo.now c.args.site.now.hosted.now g.P.Post.tells _ _ (calls (wakes c.args.b c.publishers.p) ∷ []) _ _ _ _ _ _ _ _ _ _ more (i.kept tells) c.in-Ok.ensures.went (c.in-Ok.ensures.kept tells);
-      faults = k.disk_moves.same.0 ∙ i.faults;
-      stops = k.disk_moves.same.1 ∙ i.stops;
+      faults = (k.disk_moves.same (λ e. cc) (λ e. cc) (λ e. cc)).0 ∙ i.faults;
+      stops = (k.disk_moves.same (λ e. cc) (λ e. cc) (λ e. cc)).1 ∙ i.stops;
       sink = k.sink_moves.same (λ e. cc) ∙ i.sink;
       post = k.post_same ∙ i.post;
     }
