@@ -64,22 +64,18 @@ post_stays before after run.Post e why = record { rose = λ h. cc; same = λ h. 
 
 -- and where what writes failed the post's stays
 pub put_moves : {T : Type 0} (before after : ℕ) (r : Result T RunFault) → after ≡ before → IfErr r IsPutFault → PostMoves {T = T} before after r
-put_moves before after (Ok x) e why = record { never_falls = omega (arith, e); same = e; rose = λ h. cc }
-put_moves before after (Err run.Memory) e why = record { never_falls = omega (arith, e); same = tt; rose = λ h. cc }
-put_moves before after (Err run.Write) e why = record { never_falls = omega (arith, e); same = tt; rose = λ h. cc }
+put_moves before after (Ok x) e why = record { never_falls = omega (arith, e); same = λ n. e; rose = λ h. cc }
+put_moves before after (Err run.Memory) e why = record { never_falls = omega (arith, e); same = λ n. e; rose = λ h. cc }
+put_moves before after (Err run.Write) e why = record { never_falls = omega (arith, e); same = λ n. e; rose = λ h. cc }
 put_moves before after (Err run.Disk) e why = absurd why
 put_moves before after (Err (run.Damaged p at)) e why = absurd why
 put_moves before after (Err run.Post) e why = absurd why
-
-on_count : {T : Type 0} (before middle after : ℕ) (r : Result T RunFault) → middle ≡ before → OnOk r (after ≡ middle) → OnOk r (after ≡ before)
-on_count before middle after (Ok x) e h = h ∙ e
-on_count before middle after (Err f) e h = tt
 
 -- what stayed, and then as it moves
 pub moves_later : {T : Type 0} (before middle after : ℕ) (r : Result T RunFault) → middle ≡ before → PostMoves {T = T} middle after r → PostMoves {T = T} before after r
 moves_later {T} before middle after r e m = record {
   never_falls = omega (arith, e, m.never_falls);
-  same = on_count before middle after r e m.same;
+  same = λ h. m.same h ∙ e;
   rose = λ h. subst (λ (n : ℕ). Rose n after) e (m.rose h);
 }
 

@@ -1,5 +1,5 @@
 -- How a run over the outside leaves its counts and its journal
-use Rattle.std.specs.Prelude.{◌≡◌, ◌≢◌, ℕ, ◌≤◌, List, [], ◌∷◌, ◌++◌, Result, Err, IsErrOf, OnOk}
+use Rattle.std.specs.Prelude.{◌≡◌, ◌≢◌, ℕ, ◌≤◌, List, [], ◌∷◌, ◌++◌, Result, Err, IsErrOf}
 use Rattle.std.specs.Prelude.{OnErr, IsOkUnless}
 use Rattle.gr_out.specs.declared.fault.RunFault.{RunFault}
 use Rattle.gr_out.specs.declared.fault.RunFault.TheVariants as run
@@ -30,10 +30,10 @@ pub record SinkMoves {T : Type 0} (faults faults' : ℕ) (result : Result T RunF
   pub rose : IsErrOf result run.Write → Rose faults faults'
   pub same : result ≢ Err run.Write → faults' ≡ faults
 
--- the post's: it has risen where the answer is that the post failed, and stays after Ok
+-- the post's: it has risen where the answer is that the post failed, and stays where it is anything else
 pub record PostMoves {T : Type 0} (faults faults' : ℕ) (result : Result T RunFault) : Type 0 where
   pub never_falls : faults ≤ faults'
-  pub same : OnOk result (faults' ≡ faults)
+  pub same : result ≢ Err run.Post → faults' ≡ faults
   pub rose : IsErrOf result run.Post → Rose faults faults'
 
 -- What a call that offers a note keeps: it ends early for want of memory alone, and has offered nothing then; an offer

@@ -16,4 +16,4 @@ returns-clause-bound g c =
 
 pub returns-clause-moves : goal.returns-clause-moves
 returns-clause-moves g c =
-    moves_later (g.P.Post.faults c.args.post.now) (g.P.Post.faults c.bind.new.post) (g.P.Post.faults c.bind-2.new.post) c.bind-2.result c.in_ok-bind.ensures.post.same c.bind-2.ensures.post
+    moves_later (g.P.Post.faults c.args.post.now) (g.P.Post.faults c.bind.new.post) (g.P.Post.faults c.bind-2.new.post) c.bind-2.result (c.in_ok-bind.ensures.post.same (λ e. cc)) c.bind-2.ensures.post

@@ -22,7 +22,7 @@ returns-clause-sink g c =
 
 pub returns-clause-moves : goal.returns-clause-moves
 returns-clause-moves g c =
-    put_moves (g.P.Post.faults c.args.post.now) (g.P.Post.faults c.go_on.new.post) c.tell_last.result c.in_ok-go_on.ensures.moves.same c.tell_last.ensures.cause
+    put_moves (g.P.Post.faults c.args.post.now) (g.P.Post.faults c.go_on.new.post) c.tell_last.result (c.in_ok-go_on.ensures.moves.same (λ e. cc)) c.tell_last.ensures.cause
 
 pub returns-in_err-go_on-clause-finished : goal.returns-in_err-go_on-clause-finished
 returns-in_err-go_on-clause-finished g c =

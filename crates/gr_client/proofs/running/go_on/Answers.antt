@@ -16,7 +16,7 @@ turns-preserved g c =
     record {
       goes = more_came c.args.topo.now c.args.p g.P.Post.tells c.turns.counter c.args.client.now c.turns.client c.turn.new.client _ _ _ _ _ _ c.in-Ok.goes_on c.if-not-goes_on.false (c.is_running.ensures.running c.if-not-is_running.false) i.goes c.in-Ok.ensures.turned;
       sink = c.in-Ok.ensures.sink.same (λ e. cc) ∙ i.sink;
-      post = c.in-Ok.ensures.moves.same ∙ i.post;
+      post = c.in-Ok.ensures.moves.same (λ e. cc) ∙ i.post;
       piece = c.turn.ensures.piece;
     }
 

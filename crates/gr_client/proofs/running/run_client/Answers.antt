@@ -55,7 +55,7 @@ pub returns-in_err-offer-clause-post : goal.returns-in_err-offer-clause-post
 returns-in_err-offer-clause-post g c =
     let fault = err_from_is_err_and c.from_residual-in_err-offer.result c.from_residual-in_err-offer.ensures.1 in
     rw (fault.1, fault.2)
-    (put_moves {T = Unit {0}} (g.P.Post.faults c.args.post.now) (g.P.Post.faults c.offer.new.post) (Err c.in_err-offer.field-0.0) (c.offer.ensures.keeps.same ∙ c.in_ok-bind_nodes.ensures.moves.same) (memory_put {T = Unit {0}} (Err c.in_err-offer.field-0.0) c.in_err-offer.ensures.keeps.cause))
+    (put_moves {T = Unit {0}} (g.P.Post.faults c.args.post.now) (g.P.Post.faults c.offer.new.post) (Err c.in_err-offer.field-0.0) (c.offer.ensures.keeps.same ∙ c.in_ok-bind_nodes.ensures.moves.same (λ e. cc)) (memory_put {T = Unit {0}} (Err c.in_err-offer.field-0.0) c.in_err-offer.ensures.keeps.cause))
 
 pub returns-clause-ran : goal.returns-clause-ran
 returns-clause-ran g c = λ steps begins.
@@ -70,4 +70,4 @@ returns-clause-ran g c = λ steps begins.
 
 pub returns-clause-post : goal.returns-clause-post
 returns-clause-post g c =
-    moves_later (g.P.Post.faults c.args.post.now) (g.P.Post.faults c.offer.new.post) (g.P.Post.faults c.finish.new.post) c.finish.result (c.offer.ensures.keeps.same ∙ c.in_ok-bind_nodes.ensures.moves.same) c.finish.ensures.moves
+    moves_later (g.P.Post.faults c.args.post.now) (g.P.Post.faults c.offer.new.post) (g.P.Post.faults c.finish.new.post) c.finish.result (c.offer.ensures.keeps.same ∙ c.in_ok-bind_nodes.ensures.moves.same (λ e. cc)) c.finish.ensures.moves
