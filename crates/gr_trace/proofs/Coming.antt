@@ -1,5 +1,5 @@
 -- What comes is written behind its line: what a call of a turn leaves, by what was answered before and what is answered now
-use Rattle.std.proofs.Common.{◌≡◌, ◌⊎◌, inl, inr, ℕ, min, Bool, true, false, List, [], ◌∷◌, ◌++◌, Option, Result, Ok, Err, OnOk, IfErr, refl, sym, ap, ◌∙◌, subst, append-nil}
+use Rattle.std.proofs.Common.{◌≡◌, ◌≢◌, ◌⊎◌, inl, inr, ℕ, min, Bool, true, false, List, [], ◌∷◌, ◌++◌, Option, Result, Ok, Err, OnOk, IfErr, refl, sym, ap, ◌∙◌, subst, append-nil}
 use Rattle.std.specs.Prelude.{if◌then◌else◌}
 use Rattle.gr_out.specs.declared.fault.RunFault.{RunFault}
 use Rattle.gr_out.specs.declared.fault.RunFault.TheVariants as run
@@ -21,7 +21,7 @@ use Rattle.gr_trace.specs.Gathered.{IsEmpty, IsBetween, Gathers}
 use Rattle.gr_trace.specs.Traced.{noted}
 use Rattle.gr_trace.specs.Wrote.{line_of, written_at, Wrote, Writes}
 use Rattle.gr_trace.proofs.Groups.{acts_tell}
-use Rattle.gr_trace.proofs.Written.{led, exact_or, ok_exact, wrote_of}
+use Rattle.gr_trace.proofs.Written.{led, exact_or, wrote_of}
 use Rattle.gr_trace.proofs.Replies.{ok_err}
 use Rattle.gr_trace.proofs.Turns.{more_none}
 
@@ -37,13 +37,21 @@ ok_from done (Err e) P same h = tt
 pub err_from : (done result : Answer) (e : RunFault) → IsExact {T = Unit {0}} (Err e) → (IsExact result → result ≡ done) → result ≡ Err e → done ≡ Err e
 err_from done result e exact same is = sym (same (subst (λ (r : Answer). IsExact r) (sym is) exact)) ∙ is
 
+else_exact : (r : Answer) → r ≢ Err run.Write → r ≢ Err run.Memory → IsExact r
+else_exact (Ok x) w m = tt
+else_exact (Err run.Memory) w m = absurd (m refl)
+else_exact (Err run.Write) w m = absurd (w refl)
+else_exact (Err run.Disk) w m = tt
+else_exact (Err run.Post) w m = tt
+else_exact (Err (run.Damaged p at)) w m = tt
+
 pub moves_from : (f s f' s' : ℕ) (done result : Answer) → (IsExact result → result ≡ done) → DiskMoves f s f' s' done → DiskMoves f s f' s' result
 moves_from f s f' s' done result same m = elim (exact_or result) [
   | inl exact ↦ subst (λ (r : Answer). DiskMoves f s f' s' r) (sym (same exact)) m
   | inr unknown ↦ record {
     faults_never_fall = m.faults_never_fall;
     stops_never_fall = m.stops_never_fall;
-    same = ok_exact result ((f' ≡ f) × (s' ≡ s)) unknown;
+    same = λ d w k. absurd (unknown (else_exact result w k));
     rose = λ is. absurd (unknown (subst (λ (r : Answer). IsExact r) (sym is) tt));
   }
 ]

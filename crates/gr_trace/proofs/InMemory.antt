@@ -72,7 +72,7 @@ moves_end {T} f s f' s' done result l h l' h' (inl e) m = subst (λ (r : Result 
 moves_end {T} f s f' s' done result l h l' h' (inr e) m = subst (λ (r : Result T RunFault). DiskMoves f s f' s' r) (sym e) (record {
   faults_never_fall = m.faults_never_fall;
   stops_never_fall = m.stops_never_fall;
-  same = tt;
+  same = λ d w k. absurd (k refl);
   rose = λ k. absurd (memory_disk k);
 })
 
@@ -85,8 +85,8 @@ ok_disk : {T : Type 0} (x : T) → ◌≡◌ {A = Result T RunFault} (Ok x) (Err
 ok_disk x h = cc
 
 pub moves_put : {T : Type 0} (f s f' s' : ℕ) (r : Result T RunFault) → (f' ≡ f) × (s' ≡ s) → IfErr r IsPutFault → DiskMoves f s f' s' r
-moves_put f s f' s' (Ok x) e cause = record { faults_never_fall = omega (arith, e.0); stops_never_fall = omega (arith, e.1); same = e; rose = λ k. absurd (ok_disk x k) }
-moves_put {T} f s f' s' (Err x) e cause = record { faults_never_fall = omega (arith, e.0); stops_never_fall = omega (arith, e.1); same = tt; rose = λ k. absurd (put_kind {T = T} (Err x) run.Disk cause k) }
+moves_put f s f' s' (Ok x) e cause = record { faults_never_fall = omega (arith, e.0); stops_never_fall = omega (arith, e.1); same = λ d w m. e; rose = λ k. absurd (ok_disk x k) }
+moves_put {T} f s f' s' (Err x) e cause = record { faults_never_fall = omega (arith, e.0); stops_never_fall = omega (arith, e.1); same = λ d w m. e; rose = λ k. absurd (put_kind {T = T} (Err x) run.Disk cause k) }
 
 -- What is gathered
 

@@ -26,7 +26,7 @@ pub returns-in-Ok-clause-starts : goal.returns-in-Ok-clause-starts
 returns-in-Ok-clause-starts g c = record {
   keeps = record {
     others = c.in-Ok.ensures.others;
-    disk_moves = moves_put _ _ _ _ c.settle.result c.in-Ok.ensures.disk.same c.settle.ensures.puts.cause;
+    disk_moves = moves_put _ _ _ _ c.settle.result (c.in-Ok.ensures.disk.same (λ e. cc) (λ e. cc) (λ e. cc)) c.settle.ensures.puts.cause;
   };
   kept = c.in-Ok.ensures.kept;
   damaged = λ tells p at e. absurd (put_kind c.settle.result (run.Damaged p at) c.settle.ensures.puts.cause e);

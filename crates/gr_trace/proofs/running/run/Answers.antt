@@ -41,10 +41,10 @@ turns-preserved g c =
       first = c.in-Ok-turn.ensures.first;
       between = c.in-Ok-turn.ensures.between;
       others = λ tells lane here. k.others tells lane here ∙ i.others tells lane here;
-      faults = k.disk_moves.same.0 ∙ i.faults;
-      stops = k.disk_moves.same.1 ∙ i.stops;
+      faults = (k.disk_moves.same (λ e. cc) (λ e. cc) (λ e. cc)).0 ∙ i.faults;
+      stops = (k.disk_moves.same (λ e. cc) (λ e. cc) (λ e. cc)).1 ∙ i.stops;
       sink = k.sink_moves.same (λ e. cc) ∙ i.sink;
-      post = k.post_moves.same ∙ i.post;
+      post = k.post_moves.same (λ e. cc) ∙ i.post;
       piece = i.piece;
     }
 
